@@ -1,0 +1,9 @@
+pub mod Tests
+pub mod Bits
+pub mod Packing
+pub mod Standing
+pub mod Breaks
+pub mod Codes
+pub mod Reading
+pub mod Rolling
+pub mod Writing

@@ -1,0 +1,112 @@
+-- Where k letters have been seen, the last k of the run of bases that ends there are the letters of the place that is written. Assumes nothing.
+use borrow.Author.Needs.{needs, scaled-fits}
+use native.Mathlib.Omega.{arith}
+use mathlib.Core.Path.{_≡_, _∙_}
+use mathlib.Core.Logic.{⊎-elim}
+use Prim.Native.Nat.{_+_, _-_, _≤_}
+use lib.ListN.{length}
+use Rattle.kmers.proofs.Rolling.{Rolled, rolled-start, rolled-62, rolled-base, rolled-break, rolled-code}
+use Rattle.kmers.proofs.Writing.{Written, written-start, written-skip, written-next, written-end}
+use Rattle.kmers.proofs.fill_codes.Statement.{statement}
+use Rattle.kmers.proofs.fill_codes.Tie as tie
+
+abbrev Inv-loop : tie.InvT-loop
+Inv-loop s k out₀ mask code₀ run₀ n₀ out code run n = (n ≤ length s) × Rolled s k code run n × Written s k out₀ out n
+
+abbrev μ-loop : tie.MeasureT-loop
+μ-loop s k out₀ mask code₀ run₀ n₀ out code run n = length s - n
+
+mask-of-requires : tie.Need-mask-of-requires Inv-loop μ-loop
+mask-of-requires c κs = search needs
+
+loop-holds : tie.Need-loop-holds Inv-loop μ-loop
+loop-holds c = (search needs, rolled-start _ _, written-start _ _ _ (c .before .before .before .pre .0))
+
+shared-slice-read-base : tie.Need-shared-slice-read-base Inv-loop μ-loop
+shared-slice-read-base c = search needs
+
+base-requires : tie.Need-base-requires Inv-loop μ-loop
+base-requires c κs = search needs
+
+roll-requires : tie.Need-roll-requires Inv-loop μ-loop
+roll-requires c κs =
+    let l = c .before .before .before .before in
+    (rolled-62 _ _ _ _ _ (l .before .before .before .before .pre .1 .0) (l .loop .inv .1), (search needs, search needs))
+
+add-run : tie.Need-add-run Inv-loop μ-loop
+add-run c = omega (arith, c .before .before .before .before .before .loop .inv .1 .within)
+
+add-n : tie.Need-add-n Inv-loop μ-loop
+add-n c = search needs
+
+-- the run after the letter, by either arm
+run-after : (c : tie.Joined1 Inv-loop μ-loop)
+    → let l = c .before .before .before .before in
+    let a = l .before .before .before .before .args in
+    Rolled (a .s .now) (a .k) (c .if1 .code) (c .if1 .run) (l .loop .n + 1)
+run-after c =
+    let b = c .before .base .ensures in
+    let l = c .before .before .before in
+    ⊎-elim
+    (λ w. rw (w .2, w .3) (rolled-base _ _ _ _ _ _ (l .loop-test .taken) (rw b at (w .0 .taken)) (rw b at (w .1 .ensures)) (l .before .loop .inv .1)))
+    (λ w. rw (w .1, w .2) (rolled-break _ _ _ (l .loop-test .taken) (rw b at (w .0 .left))))
+    (c .if1 .came)
+
+slot-requires : tie.Need-slot-requires Inv-loop μ-loop
+slot-requires c κs = rolled-62 _ _ _ _ _ (c .before .before .before .before .before .before .before .before .before .pre .1 .0) (run-after (c .before))
+
+slice-write-out : tie.Need-slice-write-out Inv-loop μ-loop
+slice-write-out c =
+    let l = c .before .before .before .before .before in
+    omega (arith, l .before .loop .inv .2 .long, l .loop-test .taken, l .before .before .before .before .before .pre)
+
+mul-out : tie.Need-mul-out Inv-loop μ-loop
+mul-out c =
+    let l = c .before .before .before .before .before .before in
+    scaled-fits _ (length (l .loop .out)) 8 (slice-write-out c) (omega (arith, l .before .before .before .before .good, l .loop .inv .2 .long))
+
+loop-less : tie.Need-loop-less Inv-loop μ-loop
+loop-less c = search needs
+
+loop-again : tie.Need-loop-again Inv-loop μ-loop
+loop-again c =
+    let l = c .before .before .before .before .before .before in
+    let a = l .before .before .before .before .args in
+    let e : l .loop .n + 1 - a .k + a .k ≡ l .loop .n + 1 = omega (arith, c .before .if2 .taken) in
+    let r = run-after (c .before .before) in
+    (search needs, r, written-next _ _ _ _ _ _ _ e (slice-write-out c) (c .slot .ensures ∙ rolled-code _ _ _ _ _ _ e (search needs) r) (l .loop .inv .2))
+
+loop-less-2 : tie.Need-loop-less-2 Inv-loop μ-loop
+loop-less-2 c = search needs
+
+loop-again-2 : tie.Need-loop-again-2 Inv-loop μ-loop
+loop-again-2 c = (search needs, run-after (c .before), written-skip _ _ _ _ _ (c .if2 .left) (c .before .before .before .before .before .loop .inv .2))
+
+same-length : tie.Need-same-length Inv-loop μ-loop
+same-length c = c .before .loop .inv .2 .long
+
+returns : tie.Need-returns Inv-loop μ-loop
+returns c = written-end _ _ _ _ _ (search needs) (c .before .loop .inv .2)
+
+pub fill-codes-spec : {M : Type 1} → statement M
+fill-codes-spec =
+    tie.close
+    (tie.spec
+    Inv-loop
+    μ-loop
+    mask-of-requires
+    loop-holds
+    shared-slice-read-base
+    base-requires
+    roll-requires
+    add-run
+    add-n
+    slot-requires
+    mul-out
+    slice-write-out
+    loop-less
+    loop-again
+    loop-less-2
+    loop-again-2
+    same-length
+    returns)

@@ -1,0 +1,124 @@
+// The k-mers of a sequence, packed into two bits a base.
+ghost use mathlib.Core.Path.{_≡_};
+ghost use mathlib.Core.Bool.{cond};
+ghost use mathlib.Core.List.{_++_};
+ghost use Prim.Native.Nat.{suc, _+_, _-_, _*_, _^_, _%_, _<_, _≤_};
+ghost use lib.Dec.{leb};
+ghost use lib.ListN.{length, drop};
+ghost use Rattle.rules.specs.Places.{places as placesIn, baseOf};
+ghost use Rattle.rules.specs.Codes.{codes};
+ghost use Rattle.kmers.specs.Reading.{readPlace};
+
+// What stands at a place.
+pub enum Kmer {
+    // a k-mer, packed
+    Code(u64),
+    // none: the first place whose letter is no base
+    Break(usize),
+}
+
+// How many places a sequence of so many letters has. The clause bars only the greatest length with k = 0, whose answer fits no word.
+pub fn places(length: usize, k: usize) -> usize
+    requires { ⌜ suc length - k < 2 ^ 64 ⌝ }
+    ensures { λ r. ⌜ r ≡ suc length - k ⌝ }
+{
+    if k <= length { length - k + 1 } else { 0 }
+}
+
+// The two bits of a base, 4 for a byte that is none.
+fn base(letter: u8) -> u64
+    ensures { λ r. ⌜ r ≡ baseOf letter ⌝ }
+{
+    match letter {
+        b'A' => 0,
+        b'C' => 1,
+        b'G' => 2,
+        b'T' => 3,
+        _ => 4,
+    }
+}
+
+// One more base, below those that are there.
+fn push(code: u64, base: u64) -> u64
+    requires { ⌜ code < 2 ^ 62 ⌝ }
+    requires { ⌜ base < 4 ⌝ }
+    ensures { λ r. ⌜ r ≡ code * 4 + base ⌝ }
+{
+    (code << 2) | base
+}
+
+// The bits of k bases.
+fn mask_of(k: usize) -> u64
+    requires { ⌜ k ≤ 31 ⌝ }
+    ensures { λ r. ⌜ r ≡ 2 ^ (2 * k) - 1 ⌝ }
+{
+    (1u64 << (2 * k)) - 1
+}
+
+// One more base, of which the last k stay.
+fn roll(code: u64, base: u64, k: usize, mask: u64) -> u64
+    requires { ⌜ code < 2 ^ 62 ⌝ }
+    requires { ⌜ base < 4 ⌝ }
+    requires { ⌜ mask ≡ 2 ^ (2 * k) - 1 ⌝ }
+    ensures { λ r. ⌜ r ≡ (code * 4 + base) % 2 ^ (2 * k) ⌝ }
+{
+    push(code, base) & mask
+}
+
+// The number that stands for a place whose letters end a run of bases: 0 where the run is shorter than k.
+fn slot(code: u64, run: usize, k: usize) -> u64
+    requires { ⌜ code < 2 ^ 62 ⌝ }
+    ensures { λ r. ⌜ r ≡ cond (leb k run) (code + 1) 0 ⌝ }
+{
+    if k <= run { code + 1 } else { 0 }
+}
+
+// The k-mer at a place, or the place that breaks it.
+pub fn read_place(s: &[u8], k: usize, place: usize) -> Kmer
+    requires { ⌜ k ≤ 31 ⌝ }
+    requires { ⌜ 1 ≤ place ⌝ }
+    requires { ⌜ place + k ≤ length (now s) + 1 ⌝ }
+    ensures { λ r. ⌜ r ≡ readPlace k (now (s .entry)) place ⌝ }
+{
+    let mut code: u64 = 0;
+    let mut read: usize = 0;
+    while read < k {
+        let b = base(s[place - 1 + read]);
+        if 4 <= b {
+            let broken = place + read;
+            return Kmer::Break(broken);
+        }
+        code = push(code, b);
+        read += 1;
+    }
+    Kmer::Code(code)
+}
+
+// The codes of all places, in one pass: a step a letter, whatever k is.
+pub fn fill_codes(s: &[u8], k: usize, out: &mut [u64])
+    requires { ⌜ 1 ≤ k ⌝ }
+    requires { ⌜ k ≤ 31 ⌝ }
+    requires { ⌜ length (now s) ≤ length (now out) ⌝ }
+    ensures { λ _. ⌜ now (out .exit) ≡ codes k (now (s .entry)) ++ drop (placesIn k (now (s .entry))) (now (out .entry)) ⌝ }
+{
+    let mask = mask_of(k);
+    let mut code: u64 = 0;
+    // how many letters up to here are bases, with no other between them
+    let mut run: usize = 0;
+    let mut n: usize = 0;
+    while n < s.len() {
+        let b = base(s[n]);
+        if b < 4 {
+            code = roll(code, b, k, mask);
+            run += 1;
+        } else {
+            code = 0;
+            run = 0;
+        }
+        n += 1;
+        if k <= n {
+            let first = n - k;
+            out[first] = slot(code, run, k);
+        }
+    }
+}

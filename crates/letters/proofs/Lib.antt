@@ -1,0 +1,5 @@
+pub mod Computed
+pub mod Capitals
+pub mod Inverse
+pub mod Searching
+pub mod FirstBad

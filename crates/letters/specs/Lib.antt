@@ -1,0 +1,2 @@
+pub mod Capitals
+pub mod FirstBad

@@ -1,0 +1,6 @@
+pub mod Links
+pub mod Totals
+pub mod Rows
+pub mod Walking
+pub mod Unique
+pub mod Examples

@@ -1,0 +1,4 @@
+pub mod Hits
+pub mod Owns
+pub mod Tables
+pub mod Lowers

@@ -1,0 +1,86 @@
+-- Both ways end with every owner written: by the table where it could be built, and else by the sort.
+use Prim.Native.Nat.{ℕ}
+use native.Mathlib.Omega.{arith}
+use lib.ListN.{length-replicate}
+use borrow.Author.Needs.{needs}
+use Rattle.order.proofs.Cases.{zero-at}
+use Rattle.owners.proofs.Tables.{table-start}
+use Rattle.owners.proofs.own_all.Statement.{statement}
+use Rattle.owners.proofs.own_all.Tie as tie
+
+slice-aggregate-build : tie.Need-slice-aggregate-build
+slice-aggregate-build c = search needs
+
+slice-aggregate-build-2 : tie.Need-slice-aggregate-build-2
+slice-aggregate-build-2 c = search needs
+
+build-requires : tie.Need-build-requires
+build-requires c κs =
+    let s = c .before .before .before .before .before .before in
+    (s .pre .0, table-start (length-replicate {A = ℕ} 32768 0) (omega (arith, length-replicate {A = ℕ} 16384 0)) (zero-at 32768))
+
+slice-aggregate-owners-by-table : tie.Need-slice-aggregate-owners-by-table
+slice-aggregate-owners-by-table c = search needs
+
+slice-aggregate-owners-by-table-2 : tie.Need-slice-aggregate-owners-by-table-2
+slice-aggregate-owners-by-table-2 c = search needs
+
+owners-by-table-requires : tie.Need-owners-by-table-requires
+owners-by-table-requires c κs =
+    let built = c .before .before .before .before .before .before in
+    let s = built .before .before .before .before .before .before .before .pre in
+    (s .0, (s .1 .0, built .build .ensures (c .before .before .before .if1 .taken)))
+
+slice-aggregate-owners-by-table-3 : tie.Need-slice-aggregate-owners-by-table-3
+slice-aggregate-owners-by-table-3 c = search needs
+
+slice-aggregate-owners-by-table-4 : tie.Need-slice-aggregate-owners-by-table-4
+slice-aggregate-owners-by-table-4 c = search needs
+
+owners-by-table-requires-2 : tie.Need-owners-by-table-requires-2
+owners-by-table-requires-2 c κs =
+    let built = c .before .before .before .before .before .before .before .before .before .before .before .before in
+    let s = built .before .before .before .before .before .before .before .pre in
+    (s .0, (s .1 .1, built .build .ensures (c .before .before .before .before .before .before .before .before .before .if1 .taken)))
+
+same-length : tie.Need-same-length
+same-length c = search needs
+
+same-length-2 : tie.Need-same-length-2
+same-length-2 c = search needs
+
+returns : tie.Need-returns
+returns c = search needs
+
+own-by-order-requires : tie.Need-own-by-order-requires
+own-by-order-requires c κs = search needs
+
+same-length-3 : tie.Need-same-length-3
+same-length-3 c = search needs
+
+same-length-4 : tie.Need-same-length-4
+same-length-4 c = search needs
+
+returns-2 : tie.Need-returns-2
+returns-2 c = search needs
+
+pub own-all-spec : {M : Type 1} → statement M
+own-all-spec =
+    tie.close
+    (tie.spec
+    slice-aggregate-build
+    slice-aggregate-build-2
+    build-requires
+    slice-aggregate-owners-by-table
+    slice-aggregate-owners-by-table-2
+    owners-by-table-requires
+    slice-aggregate-owners-by-table-3
+    slice-aggregate-owners-by-table-4
+    owners-by-table-requires-2
+    same-length
+    same-length-2
+    returns
+    own-by-order-requires
+    same-length-3
+    same-length-4
+    returns-2)

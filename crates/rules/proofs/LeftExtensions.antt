@@ -1,0 +1,43 @@
+-- A left extension as facts on numbers, and that none comes from what stands at or after a match. Assumes nothing.
+use mathlib.Core.Path.{_≡_}
+use mathlib.Core.Bool.{true, false}
+use mathlib.Core.List.{List, [], _∷_, List·Memᴰ}
+use Prim.Native.Nat.{ℕ, _+_, _≤_, _<_}
+use native.Mathlib.Nat.{lt-of-not-le}
+use native.Mathlib.Omega.{arith}
+use lib.Dec.{T}
+use Rattle.rules.specs.Matches.{Cell}
+use Rattle.rules.specs.Chains.{leftExtension}
+use Rattle.rules.specs.Listing.{Before}
+use Rattle.rules.proofs.Tests.{tests}
+
+pub record Extends (b : ℕ) (x y : Cell) : Type 0 where
+  pub row-le : x .row ≤ y .row
+  pub row-near : y .row ≤ x .row + b
+  pub column-le : x .column ≤ y .column
+  pub column-near : y .column ≤ x .column + b
+  pub moved : x .row + x .column < y .row + y .column
+
+pub extend-facts : (b : ℕ) (x y : Cell) → T (leftExtension b x y) → Extends b x y
+unfolding leftExtension
+extend-facts b x y t =
+    let h = simp (leftExtension, tests) at t in
+    record {
+      row-le = omega arith;
+      row-near = omega arith;
+      column-le = omega arith;
+      column-near = omega arith;
+      moved = lt-of-not-le (λ (g : y .row + y .column ≤ x .row + x .column). h .1 (omega arith, omega arith));
+    }
+
+pub facts-extend : (b : ℕ) (x y : Cell) → Extends b x y → T (leftExtension b x y)
+unfolding leftExtension
+facts-extend b x y e = simp (leftExtension, tests) ((((e .row-le, e .row-near), e .column-le), e .column-near), λ p. omega (arith, e .moved, p))
+
+pub not-self : (b : ℕ) (c : Cell) → ¬ T (leftExtension b c c)
+not-self b c t = omega (arith, extend-facts b c c t .moved)
+
+pub not-after : (b : ℕ) (c y : Cell) → Before c y → ¬ T (leftExtension b y c)
+not-after b c y h t =
+    let e = extend-facts b y c t in
+    omega (arith, e, h .column-lt (omega (arith, e, h .row-le)))

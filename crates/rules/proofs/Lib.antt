@@ -1,0 +1,13 @@
+pub mod Tests
+pub mod ListLaws
+pub mod LeftExtensions
+pub mod Kmers
+pub mod MatchList
+pub mod Weights
+pub mod Ties
+pub mod Starts
+pub mod Sweeps
+pub mod Jobs
+pub mod Bounds
+pub mod Listings
+pub mod Theorems

@@ -1,0 +1,175 @@
+-- Document 01, "Examples in the registry", and what those leave open: whole answers and whole rooms. Assumes nothing.
+use mathlib.Core.Path.{_≡_, refl}
+use mathlib.Core.List.{List, [], _∷_, map}
+use Prim.Native.Nat.{ℕ}
+use lib.ListN.{replicate}
+use Rattle.rules.specs.declared.Settings.{Settings}
+use Rattle.rules.specs.declared.Answer.{Answer}
+use Rattle.rules.specs.Lists.{text, thenZeros}
+use Rattle.rules.specs.Matches.{Cell, cell, matches}
+use Rattle.rules.specs.Answers.{Outcome, refusal, compared, stopped, replied}
+
+-- what is asked: the compare job with its two rooms, or the stopped sweep with its room and row
+pub data Question : Type 0 where
+  compare-job : Settings → List ℕ → List ℕ → List ℕ → List ℕ → Question
+  stopped-sweep : Settings → List ℕ → List ℕ → List ℕ → ℕ → Question
+
+unfoldable pub outcome : Question → Outcome
+unfolding compared stopped
+outcome (compare-job c first second work list) = compared c first second work list
+outcome (stopped-sweep c first second work r) = stopped c first second work r
+
+-- a question and its outcome
+pub record Row : Type 0 where
+  pub asked : Question
+  pub given : Outcome
+
+abbrev row : Question → Outcome → Row
+row q o = record { asked = q; given = o }
+
+-- k, b, a and m
+abbrev pub set : ℕ → ℕ → ℕ → ℕ → Settings
+set k b a m = record { k = k; b = b; a = a; m = m }
+
+-- a room of n numbers as it is lent, none of them zero, so that zeros are seen to be written
+abbrev room : ℕ → List ℕ
+room n = replicate n 7
+
+-- done, with the four tallies and both rooms
+abbrev done : ℕ → ℕ → ℕ → ℕ → List ℕ → List ℕ → Outcome
+done listed matches widest links work list =
+    record {
+      answer =
+          record { number = 0; sequence = 0; detail = 0; listed = listed; matches = matches; widest = widest; links = links };
+      work = work;
+      list = list;
+    }
+
+-- refused, with the number, sequence, detail and both rooms
+abbrev pub refused : ℕ → ℕ → ℕ → List ℕ → List ℕ → Outcome
+unfolding refusal
+refused number sequence detail work list = record { answer = refusal number sequence detail; work = work; list = list }
+
+-- n zeros
+abbrev none : ℕ → List ℕ
+none n = replicate n 0
+
+-- P1 to P11, in order
+abbrev pub table : List Row
+unfolding text thenZeros
+table =
+    row (compare-job (set 2 2 8 0) (text "ACCGT") (text "ACGGT") (room 100) (room 100))
+    (done 1 3 2 2 (none 100) (thenZeros (1 ∷ 5 ∷ 1 ∷ 5 ∷ 3 ∷ []) 100))
+    ∷ row (compare-job (set 2 1 8 0) (text "ACCGT") (text "ACGGT") (room 100) (room 100))
+    (done 3 3 2 0 (none 100) (thenZeros (1 ∷ 2 ∷ 1 ∷ 2 ∷ 1 ∷ 3 ∷ 4 ∷ 2 ∷ 3 ∷ 1 ∷ 4 ∷ 5 ∷ 4 ∷ 5 ∷ 1 ∷ []) 100))
+    ∷ row (compare-job (set 2 2 8 0) (text "ACCGT") (text "ACGGT") (room 16) (room 100))
+    (done 1 3 2 2 (none 16) (thenZeros (1 ∷ 5 ∷ 1 ∷ 5 ∷ 3 ∷ []) 100))
+    ∷ row (compare-job (set 2 2 8 0) (text "ACCGT") (text "ACGGT") (room 15) (room 100))
+    (refused 7 0 2 (none 15) (none 100))
+    ∷ row (compare-job (set 1 1 6 0) (text "AAA") (text "AAA") (room 100) (room 100))
+    (done 5 9 6 16 (none 100)
+    (thenZeros
+    (1 ∷ 1 ∷ 1 ∷ 3 ∷ 3 ∷ 1 ∷ 2 ∷ 1 ∷ 3 ∷ 4 ∷ 1 ∷ 3 ∷ 1 ∷ 1 ∷ 3 ∷ 1 ∷ 3 ∷ 1 ∷ 2 ∷ 4 ∷ 1 ∷ 3 ∷ 1 ∷ 3 ∷ 5 ∷ []) 100))
+    ∷ row (compare-job (set 1 1 5 0) (text "AAA") (text "AAA") (room 100) (room 100)) (done 0 0 0 0 (none 100) (none 100))
+    ∷ row (compare-job (set 1 1 6 3) (text "AAA") (text "AAA") (room 100) (room 100))
+    (done 1 9 6 16 (none 100) (thenZeros (1 ∷ 3 ∷ 1 ∷ 3 ∷ 5 ∷ []) 100))
+    ∷ row (compare-job (set 2 3 3 0) (text "ACNAC") (text "AC") (room 100) (room 100))
+    (done 2 2 2 1 (none 100) (thenZeros (1 ∷ 2 ∷ 1 ∷ 2 ∷ 1 ∷ 1 ∷ 5 ∷ 1 ∷ 2 ∷ 2 ∷ []) 100))
+    ∷ row (compare-job (set 2 2 3 0) (text "ACNAC") (text "AC") (room 100) (room 100))
+    (done 2 2 1 0 (none 100) (thenZeros (1 ∷ 2 ∷ 1 ∷ 2 ∷ 1 ∷ 4 ∷ 5 ∷ 1 ∷ 2 ∷ 1 ∷ []) 100))
+    ∷ row (compare-job (set 1 1 1 0) [] [] [] []) (done 0 0 0 0 [] [])
+    ∷ row (stopped-sweep (set 2 2 8 0) (text "ACCGT") (text "ACGGT") (room 100) 3)
+    (done 2 3 2 2 (thenZeros (1 ∷ 1 ∷ 1 ∷ 1 ∷ 1 ∷ 0 ∷ 0 ∷ 0 ∷ 3 ∷ 2 ∷ 2 ∷ 1 ∷ 1 ∷ 0 ∷ 0 ∷ 0 ∷ []) 100) [])
+    ∷ []
+
+-- every question of the table has the outcome that stands beside it
+pub P1-to-P11 : map (λ (r : Row). outcome (r .asked)) table ≡ map (λ (r : Row). r .given) table
+unfolding outcome text thenZeros
+P1-to-P11 = refl
+
+-- P1: "matches (1,1), (3,2), (4,4)"
+pub P1-matches : matches (set 2 2 8 0) (text "ACCGT") (text "ACGGT") ≡ cell 1 1 ∷ cell 3 2 ∷ cell 4 4 ∷ []
+unfolding matches text
+P1-matches = refl
+
+-- what P1 to P11 leave open, about matches, chains and the listing
+abbrev pub open-rows : List Row
+unfolding text thenZeros
+open-rows =
+    -- a tie goes to the smaller column: the start is (2,1) and not (1,2)
+    row (compare-job (set 1 2 2 0) (text "ACG") (text "CAG") (room 24) (room 5)) (done 1 3 3 2 (none 24) (2 ∷ 3 ∷ 1 ∷ 3 ∷ 2 ∷ []))
+    -- of the fifteen letters only A, C, G and T form k-mers
+    ∷ row (compare-job (set 1 1 8 0) (text "ACMGRSVTWYHKDBN") (text "ACMGRSVTWYHKDBN") (room 16) (room 17))
+    (done 3 4 2 1 (none 16) (thenZeros (1 ∷ 2 ∷ 1 ∷ 2 ∷ 2 ∷ 4 ∷ 4 ∷ 4 ∷ 4 ∷ 1 ∷ 8 ∷ 8 ∷ 8 ∷ 8 ∷ 1 ∷ []) 17))
+    -- no k-mer runs across an N
+    ∷ row (compare-job (set 2 1 8 0) (text "ANC") (text "AC") (room 8) (room 5)) (done 0 0 0 0 (none 8) (none 5))
+    -- ends are compared as numbers: 9 before 10
+    ∷ row (compare-job (set 1 1 2 0) (text "NNNNNNNNAC") (text "CNA") (room 16) (room 10))
+    (done 2 2 2 0 (none 16) (9 ∷ 9 ∷ 3 ∷ 3 ∷ 1 ∷ 10 ∷ 10 ∷ 1 ∷ 1 ∷ 1 ∷ []))
+    -- both spans count: at m 2 an entry with a span of 1 is not listed
+    ∷ row (compare-job (set 1 1 6 2) (text "AAA") (text "AAA") (room 48) (room 15))
+    (done 3 9 6 16 (none 48) (1 ∷ 2 ∷ 1 ∷ 3 ∷ 4 ∷ 1 ∷ 3 ∷ 1 ∷ 2 ∷ 4 ∷ 1 ∷ 3 ∷ 1 ∷ 3 ∷ 5 ∷ []))
+    -- the stopped sweep after row 0, and after the last row
+    ∷ row (stopped-sweep (set 2 2 8 0) (text "ACCGT") (text "ACGGT") (room 17) 0) (done 0 3 2 2 (none 17) [])
+    ∷ row (stopped-sweep (set 2 2 8 0) (text "ACCGT") (text "ACGGT") (room 17) 4)
+    (done 2 3 2 2 (3 ∷ 2 ∷ 2 ∷ 1 ∷ 1 ∷ 0 ∷ 0 ∷ 0 ∷ 4 ∷ 4 ∷ 3 ∷ 1 ∷ 1 ∷ 0 ∷ 0 ∷ 0 ∷ 0 ∷ []) [])
+    ∷ []
+
+pub open-examples : map (λ (r : Row). outcome (r .asked)) open-rows ≡ map (λ (r : Row). r .given) open-rows
+unfolding outcome text thenZeros
+open-examples = refl
+
+-- each refusal where all that come after it apply too, so that the first is given; and the settings at the ends of their ranges
+abbrev pub refusal-rows : List Row
+unfolding text
+refusal-rows =
+    row (compare-job (set 0 0 0 16385) (replicate 16385 0) (replicate 16385 0) (room 3) (room 2)) (refused 1 0 0 (room 3) (room 2))
+    ∷ row (compare-job (set 32 1025 1025 16385) (replicate 16385 0) (replicate 16385 0) (room 3) (room 2))
+    (refused 1 0 0 (room 3) (room 2))
+    ∷ row (compare-job (set 1 0 0 16385) (replicate 16385 0) (replicate 16385 0) (room 3) (room 2))
+    (refused 2 0 0 (room 3) (room 2))
+    ∷ row (compare-job (set 31 1025 1025 16385) (replicate 16385 0) (replicate 16385 0) (room 3) (room 2))
+    (refused 2 0 0 (room 3) (room 2))
+    ∷ row (compare-job (set 1 1 0 16385) (replicate 16385 0) (replicate 16385 0) (room 3) (room 2))
+    (refused 3 0 0 (room 3) (room 2))
+    ∷ row (compare-job (set 31 1024 1025 16385) (replicate 16385 0) (replicate 16385 0) (room 3) (room 2))
+    (refused 3 0 0 (room 3) (room 2))
+    ∷ row (compare-job (set 31 1024 1024 16385) (replicate 16385 0) (replicate 16385 0) (room 3) (room 2))
+    (refused 4 0 0 (room 3) (room 2))
+    ∷ row (compare-job (set 31 1024 1024 16384) (replicate 16385 0) (replicate 16385 0) (room 3) (room 2))
+    (refused 5 1 0 (room 3) (room 2))
+    ∷ row (compare-job (set 31 1024 1024 16384) (text "a") (replicate 16385 0) (room 3) (room 2)) (refused 5 2 0 (room 3) (room 2))
+    ∷ row (compare-job (set 1 1 6 0) (text "AaA") (text "AAU") (room 3) (room 2)) (refused 6 1 2 (room 3) (room 2))
+    ∷ row (compare-job (set 1 1 6 0) (text "AAA") (text "AAU") (room 3) (room 2)) (refused 6 2 3 (room 3) (room 2))
+    ∷ row (compare-job (set 1 1 6 0) (text "AAA") (text "AAA") (room 47) (room 24)) (refused 7 0 6 (none 47) (none 24))
+    ∷ row (compare-job (set 1 1 6 0) (text "AAA") (text "AAA") (room 48) (room 24)) (refused 8 0 5 (none 48) (none 24))
+    ∷ row (stopped-sweep (set 0 1 6 0) (text "AAA") (text "AAA") (room 47) 4) (refused 1 0 0 (room 47) [])
+    ∷ row (stopped-sweep (set 1 1 6 16385) (text "AAA") (text "AAA") (room 47) 4) (refused 4 0 0 (room 47) [])
+    ∷ row (stopped-sweep (set 1 1 6 0) (text "AAA") (text "AAU") (room 47) 4) (refused 6 2 3 (room 47) [])
+    ∷ row (stopped-sweep (set 1 1 6 0) (text "AAA") (text "AAA") (room 47) 4) (refused 7 0 6 (none 47) [])
+    ∷ row (stopped-sweep (set 1 1 6 0) (text "AAA") (text "AAA") (room 48) 4) (refused 19 0 3 (none 48) [])
+    -- accepted: every setting at its least, at its greatest, and 16,384 letters
+    ∷ row (compare-job (set 1 1 1 0) (text "A") (text "C") (room 3) (room 2)) (done 0 0 0 0 (none 3) (none 2))
+    ∷ row (compare-job (set 31 1024 1024 16384) (text "ACGTACGTACGTACGTACGTACGTACGTACG") (text "ACGTACGTACGTACGTACGTACGTACGTACG") (room 8) (room 2))
+    (done 0 1 1 0 (none 8) (none 2))
+    ∷ row (compare-job (set 31 1024 1024 31) (text "ACGTACGTACGTACGTACGTACGTACGTACG") (text "ACGTACGTACGTACGTACGTACGTACGTACG") (room 8) (room 5))
+    (done 1 1 1 0 (none 8) (1 ∷ 31 ∷ 1 ∷ 31 ∷ 1 ∷ []))
+    ∷ row (compare-job (set 31 1 1 0) (replicate 16384 78) [] (room 3) (room 2)) (done 0 0 0 0 (none 3) (none 2))
+    ∷ []
+
+pub refusal-examples : map (λ (r : Row). outcome (r .asked)) refusal-rows ≡ map (λ (r : Row). r .given) refusal-rows
+unfolding outcome text
+refusal-examples = refl
+
+-- the reply over the C boundary: W, and each refusal 1 to 6
+pub replies : replied (set 2 2 8 0) (text "ACCGT") (text "ACGGT")
+    ∷ replied (set 0 0 0 16385) (text "a") (text "a")
+    ∷ replied (set 1 0 0 16385) (text "a") (text "a")
+    ∷ replied (set 1 1 0 16385) (text "a") (text "a")
+    ∷ replied (set 1 1 1 16385) (text "a") (text "a")
+    ∷ replied (set 1 1 1 0) (text "a") (replicate 16385 0)
+    ∷ replied (set 1 1 1 0) (text "a") (text "A")
+    ∷ []
+    ≡ 2 ∷ 4294967297 ∷ 4294967298 ∷ 4294967299 ∷ 4294967300 ∷ 4294967301 ∷ 4294967302 ∷ []
+unfolding replied text
+replies = refl
