@@ -1,0 +1,280 @@
+-- Each way a job ends is a line of its table: the tallies are counted from the walks, and the rooms are what the sweep left, with zeros after it.
+-- Assumes nothing.
+use mathlib.Core.Path.{_≡_, refl, sym, ap, ap₂, subst, subst⁻¹, _∙_}
+use mathlib.Core.Bool.{Bool, true, false}
+use mathlib.Core.List.{List, [], _∷_, _++_}
+use Prim.Native.Nat.{ℕ, suc, _+_, _-_, _*_, _^_, _≤_, _<_}
+use native.Mathlib.Omega.{arith}
+use native.Mathlib.Nat.{le-refl, le-of-eq, le-trans}
+use borrow.Author.Tests.{lt-ltb, le-ltb}
+use lib.Dec.{ltb}
+use lib.ListN.{length, getD, take, replicate, List·getD-eq-default}
+use lib.Seq.{getD-take, length-take-le}
+use Rattle.rules.specs.declared.Settings.{Settings}
+use Rattle.rules.specs.declared.Answer.{Answer}
+use Rattle.rules.specs.declared.Cell.{Cell}
+use Rattle.rules.specs.declared.Record.{Record}
+use Rattle.rules.specs.Lists.{keep, laid, thenZeros, zeros}
+use Rattle.rules.specs.Matches.{matchesTo}
+use Rattle.rules.specs.Records.{recordsFrom}
+use Rattle.rules.specs.Listing.{entryNumbers}
+use Rattle.rules.specs.Rooms.{workHolds, listHolds, recordNumbers, inRun, largestRun, pairs}
+use Rattle.rules.specs.Answers.{Outcome, firstOf, refusal, zeroed}
+use Rattle.rules.proofs.Tests.{Three, below, equal, above, three}
+use Rattle.matches.specs.Walks.{RowWalk, WalkSafe, Described}
+use Rattle.tally.specs.declared.Counts.{Counts}
+use Rattle.tally.specs.Tallies.{MatchedBefore, Counted, Linked}
+use Rattle.predecessors.specs.declared.Ring.{Ring}
+use Rattle.predecessors.specs.Numbers.{slotOf}
+use Rattle.listing.specs.Leaving.{ListedTo}
+use Rattle.sweep.specs.Sweeping.{SweepSafe, ListsAll, HoldsRun}
+use Rattle.jobs.specs.Jobs.{doneWith, listingOf, runOf, comparedOf, stoppedOf, Walked, Lists, Holds, RingFrom, ComparesMatches, StopsMatches}
+use Rattle.jobs.proofs.Runs.{none-needed, fewer-rows, same-run}
+
+-- ---- the sweep
+
+pub sweep-safe : (firsts nexts work : List ℕ) (c : Settings) (widest : ℕ) → Walked firsts nexts c → 8 * widest ≤ length work → widest < 2 ^ 32 → (widest ≡ 0 → ⊥)
+    → SweepSafe firsts nexts work (record { size = widest; origin = 0 }) c
+sweep-safe firsts nexts work c widest w h s n =
+    record {
+      fits = record { some-room = omega arith; begins = omega arith; small = s };
+      room-for = h;
+      walks = w .walks;
+      wide = w .wide;
+      some-base = w .some-base;
+      few-bases = w .few-bases;
+    }
+
+-- where W is 0 nothing is listed
+pub lists-none : (firsts nexts list : List ℕ) (c : Settings) (widest : ℕ) → widest ≡ 0 → Lists firsts nexts widest c list 0
+unfolding keep laid recordsFrom
+lists-none firsts nexts list c widest z = record { entered = go }
+  where
+    go : (hit : Cell → Bool) (columns : ℕ) → Described hit columns firsts nexts → widest ≡ largestRun (c .b) (matchesTo hit columns (length firsts)) (length firsts)
+        → ListedTo c (matchesTo hit columns (length firsts)) (recordsFrom (c .b) [] (matchesTo hit columns (length firsts))) list 0
+    go hit columns d e =
+        subst⁻¹ (λ (cells : List Cell). ListedTo c cells (recordsFrom (c .b) [] cells) list 0) (none-needed (c .b) hit columns (length firsts) (sym e ∙ z))
+        (record { counted = refl; entries = λ h. refl })
+
+pub lists-swept : (firsts nexts list : List ℕ) (c : Settings) (widest n : ℕ) → ListsAll firsts nexts (record { size = widest; origin = 0 }) c list n → Lists firsts nexts widest c list n
+lists-swept firsts nexts list c widest n a =
+    record { entered = λ hit columns d e. a .entered hit columns (record { described = d; enough = le-of-eq (sym e) }) }
+
+-- ---- the run of a row
+
+-- the first rows of walks are walks
+pub front-safe : (firsts nexts : List ℕ) (c : Settings) (row : ℕ) → Walked firsts nexts c → row ≤ length firsts → WalkSafe (take row firsts) nexts
+front-safe firsts nexts c row w h =
+    let l = length-take-le row firsts h in
+    let f = w .walks .few-rows in
+    record { few-rows = omega arith; starts = λ p. starts p (three p row); nexts-safe = w .walks .nexts-safe }
+  where
+    starts : (p : ℕ) → Three p row → getD (take row firsts) p 0 ≤ length nexts
+    starts p (below q) = let e = getD-take row firsts p 0 q in let s = w .walks .starts p in omega arith
+    starts p (equal q) = let e = List·getD-eq-default (take row firsts) 0 {n = p} (let l = length-take-le row firsts h in omega arith) in omega arith
+    starts p (above q) = let e = List·getD-eq-default (take row firsts) 0 {n = p} (let l = length-take-le row firsts h in omega arith) in omega arith
+
+pub hold-safe : (firsts nexts work : List ℕ) (c : Settings) (widest before row : ℕ) (ring : Ring) → Walked firsts nexts c → 8 * widest ≤ length work → row ≤ length firsts
+    → RingFrom widest before ring → SweepSafe (take row firsts) nexts work ring c
+hold-safe firsts nexts work c widest before row ring w h l r =
+    let e = r .sized in
+    record { fits = r .fits; room-for = omega arith; walks = front-safe firsts nexts c row w l; wide = w .wide; some-base = w .some-base; few-bases = w .few-bases }
+
+pub holds-none : (firsts nexts work work′ : List ℕ) (c : Settings) (widest row : ℕ) → widest ≡ 0 → work′ ≡ zeros work → Holds firsts nexts widest c row work work′ 0
+unfolding runOf keep laid recordsFrom thenZeros zeros
+holds-none firsts nexts work work′ c widest row z e = record { held = go }
+  where
+    go : (hit : Cell → Bool) (columns : ℕ) → Described hit columns firsts nexts → widest ≡ largestRun (c .b) (matchesTo hit columns (length firsts)) (length firsts)
+        → (0 ≡ length (runOf c (matchesTo hit columns (length firsts)) row))
+        × (work′ ≡ thenZeros (laid recordNumbers (runOf c (matchesTo hit columns (length firsts)) row)) (length work))
+    go hit columns d q =
+        let n : length work - 0 ≡ length work = omega arith in
+        subst⁻¹ (λ (cells : List Cell). (0 ≡ length (runOf c cells row)) × (work′ ≡ thenZeros (laid recordNumbers (runOf c cells row)) (length work)))
+        (none-needed (c .b) hit columns (length firsts) (sym q ∙ z))
+        (refl, e ∙ sym (ap (λ (m : ℕ). replicate m 0) n))
+
+pub holds-swept : (firsts nexts work work′ : List ℕ) (c : Settings) (widest row last before n : ℕ) (ring : Ring) → row ≤ length firsts → last ≡ row - c .b - 1
+    → MatchedBefore firsts nexts last before → RingFrom widest before ring → HoldsRun (take row firsts) nexts ring c work work′ n → Holds firsts nexts widest c row work work′ n
+unfolding runOf
+holds-swept firsts nexts work work′ c widest row last before n ring h el mb rf run = record { held = go }
+  where
+    len : length (take row firsts) ≡ row
+    len = length-take-le row firsts h
+
+    go : (hit : Cell → Bool) (columns : ℕ) → Described hit columns firsts nexts → widest ≡ largestRun (c .b) (matchesTo hit columns (length firsts)) (length firsts)
+        → (n ≡ length (runOf c (matchesTo hit columns (length firsts)) row))
+        × (work′ ≡ thenZeros (laid recordNumbers (runOf c (matchesTo hit columns (length firsts)) row)) (length work))
+    go hit columns d e =
+        let front : Described hit columns (take row firsts) nexts =
+        record { rows = λ p q. rw (getD-take row firsts p 0 (omega (arith, len))) (d .rows p (omega (arith, len))); narrow = d .narrow } in
+        let fewer = fewer-rows (c .b) hit columns (length firsts) row h in
+        let sized = rf .sized in
+        let enough : largestRun (c .b) (matchesTo hit columns (length (take row firsts))) (length (take row firsts)) ≤ ring .size =
+        subst⁻¹ (λ (r : ℕ). largestRun (c .b) (matchesTo hit columns r) r ≤ ring .size) len (omega arith) in
+        let zero : slotOf ring (length (matchesTo hit columns (length (take row firsts) - c .b - 1))) ≡ 0 =
+        ap (λ (r : ℕ). slotOf ring (length (matchesTo hit columns (r - c .b - 1)))) len
+        ∙ ap (λ (r : ℕ). slotOf ring (length (matchesTo hit columns r))) (sym el)
+        ∙ ap (slotOf ring) (sym (mb .exact hit columns d)) ∙ rf .first in
+        let r = run .held hit columns (record { described = front; enough = enough }) zero in
+        let same : keep (λ (x : Record). inRun (c .b) (length (take row firsts)) (x .cell)) (recordsFrom (c .b) [] (matchesTo hit columns (length (take row firsts))))
+        ≡ keep (λ (x : Record). inRun (c .b) row (x .cell)) (recordsFrom (c .b) [] (matchesTo hit columns (length firsts))) =
+        ap (λ (q : ℕ). keep (λ (x : Record). inRun (c .b) q (x .cell)) (recordsFrom (c .b) [] (matchesTo hit columns q))) len ∙ same-run (c .b) hit columns (length firsts) row h in
+        (r .0 ∙ ap length same, r .1 ∙ ap (λ (l : List Record). thenZeros (laid recordNumbers l) (length work)) same)
+
+-- ---- the tables
+
+module _ (c : Settings) (cells : List Cell) (rows : ℕ) (work list : List ℕ) where
+  abbrev W : ℕ
+  W = largestRun (c .b) cells rows
+
+  table-7 : workHolds work < W → zeroed 7 W work list ≡ comparedOf c cells rows work list
+  unfolding comparedOf firstOf
+  table-7 h = rw (lt-ltb (workHolds work) W h)
+
+  table-8 : W ≤ workHolds work → listHolds list < length (listingOf c cells) → zeroed 8 (length (listingOf c cells)) work list ≡ comparedOf c cells rows work list
+  unfolding comparedOf firstOf
+  table-8 h g = rw (le-ltb (workHolds work) W h, lt-ltb (listHolds list) (length (listingOf c cells)) g)
+
+  table-0 : W ≤ workHolds work → length (listingOf c cells) ≤ listHolds list
+      → _≡_ {A = Outcome} (record {
+        answer = doneWith (length (listingOf c cells)) (length cells) W (pairs (c .b) cells);
+        work = zeros work;
+        list = thenZeros (laid (entryNumbers (c .k)) (listingOf c cells)) (length list);
+      }) (comparedOf c cells rows work list)
+  unfolding comparedOf firstOf
+  table-0 h g = rw (le-ltb (workHolds work) W h, le-ltb (listHolds list) (length (listingOf c cells)) g)
+
+module _ (c : Settings) (cells : List Cell) (rows : ℕ) (work : List ℕ) (r : ℕ) where
+  stop-7 : workHolds work < largestRun (c .b) cells rows → zeroed 7 (largestRun (c .b) cells rows) work [] ≡ stoppedOf c cells rows work r
+  unfolding stoppedOf firstOf
+  stop-7 h = rw (lt-ltb (workHolds work) (largestRun (c .b) cells rows) h)
+
+  stop-19 : largestRun (c .b) cells rows ≤ workHolds work → rows < r → zeroed 19 rows work [] ≡ stoppedOf c cells rows work r
+  unfolding stoppedOf firstOf
+  stop-19 h g = rw (le-ltb (workHolds work) (largestRun (c .b) cells rows) h, lt-ltb rows r g)
+
+  stop-0 : largestRun (c .b) cells rows ≤ workHolds work → r ≤ rows
+      → _≡_ {A = Outcome} (record {
+        answer = doneWith (length (runOf c cells r)) (length cells) (largestRun (c .b) cells rows) (pairs (c .b) cells);
+        work = thenZeros (laid recordNumbers (runOf c cells r)) (length work);
+        list = [];
+      }) (stoppedOf c cells rows work r)
+  unfolding stoppedOf firstOf
+  stop-0 h g = rw (le-ltb (workHolds work) (largestRun (c .b) cells rows) h, le-ltb rows r g)
+
+-- ---- the compare job
+
+outcome-path : {a a′ : Answer} {w w′ l l′ : List ℕ} → a ≡ a′ → w ≡ w′ → l ≡ l′ → _≡_ {A = Outcome} (record { answer = a; work = w; list = l }) (record { answer = a′; work = w′; list = l′ })
+outcome-path p q r = λ i. record { answer = p i; work = q i; list = r i }
+
+zeros-same : (a b : List ℕ) → length a ≡ length b → zeros a ≡ zeros b
+unfolding zeros
+zeros-same a b e = ap (λ (n : ℕ). replicate n 0) e
+
+holds-same : (a b : List ℕ) → length a ≡ length b → listHolds a ≡ listHolds b
+unfolding listHolds
+holds-same a b e = rw e
+
+room-for : (list : List ℕ) (n : ℕ) → n ≤ listHolds list → 5 * n ≤ length list
+unfolding listHolds
+room-for list n h = omega arith
+
+module _ (firsts nexts : List ℕ) (c : Settings) (work list : List ℕ) (b : ℕ) (eb : b ≡ c .b) (counts : Counts) (n : Counted firsts nexts b counts) where
+  counted : (hit : Cell → Bool) (columns : ℕ) → Described hit columns firsts nexts
+      → (counts .matches ≡ length (matchesTo hit columns (length firsts))) × (counts .widest ≡ largestRun (c .b) (matchesTo hit columns (length firsts)) (length firsts))
+  counted hit columns d =
+      let e = n .exact hit columns d in
+      (e .0, e .1 ∙ ap (λ (q : ℕ). largestRun q (matchesTo hit columns (length firsts)) (length firsts)) eb)
+
+  pub compare-7 : (work′ list′ : List ℕ) (r : Answer) → workHolds work < counts .widest → r ≡ refusal 7 0 (counts .widest) → work′ ≡ zeros work → list′ ≡ zeros list
+      → ComparesMatches firsts nexts c work list work′ list′ r
+  unfolding zeroed
+  compare-7 work′ list′ r h er ew el =
+      record {
+        outcome = λ hit columns d.
+            let e = counted hit columns d .1 in
+            outcome-path (er ∙ ap (refusal 7 0) e) ew el ∙ table-7 c (matchesTo hit columns (length firsts)) (length firsts) work list (omega arith);
+      }
+
+  module _ (work₁ list₁ : List ℕ) (listed : ℕ) (h : counts .widest ≤ workHolds work) (lw : length work₁ ≡ length work) (ll : length list₁ ≡ length list)
+      (a : Lists firsts nexts (counts .widest) c list₁ listed) where
+    entered : (hit : Cell → Bool) (columns : ℕ) → Described hit columns firsts nexts
+        → ListedTo c (matchesTo hit columns (length firsts)) (recordsFrom (c .b) [] (matchesTo hit columns (length firsts))) list₁ listed
+    entered hit columns d = a .entered hit columns d (counted hit columns d .1)
+
+    pub compare-8 : (work′ list′ : List ℕ) (r : Answer) → listHolds list₁ < listed → r ≡ refusal 8 0 listed → work′ ≡ zeros work₁ → list′ ≡ zeros list₁
+        → ComparesMatches firsts nexts c work list work′ list′ r
+    unfolding zeroed listingOf
+    compare-8 work′ list′ r g er ew el =
+        record {
+          outcome = λ hit columns d.
+              let e = counted hit columns d .1 in
+              let z = entered hit columns d .counted in
+              let s = holds-same list₁ list ll in
+              outcome-path (er ∙ ap (refusal 8 0) z) (ew ∙ zeros-same work₁ work lw) (el ∙ zeros-same list₁ list ll)
+              ∙ table-8 c (matchesTo hit columns (length firsts)) (length firsts) work list (omega arith) (omega arith);
+        }
+
+    pub compare-0 : (work′ list′ : List ℕ) (r : Answer) (links : ℕ) → listed ≤ listHolds list₁ → Linked firsts nexts b links
+        → r ≡ doneWith listed (counts .matches) (counts .widest) links → work′ ≡ zeros work₁ → list′ ≡ take (5 * listed) list₁ ++ replicate (length list₁ - 5 * listed) 0
+        → ComparesMatches firsts nexts c work list work′ list′ r
+    unfolding doneWith listingOf thenZeros
+    compare-0 work′ list′ r links g l er ew el = record { outcome = go }
+      where
+        go : (hit : Cell → Bool) (columns : ℕ) → Described hit columns firsts nexts
+            → _≡_ {A = Outcome} (record { answer = r; work = work′; list = list′ }) (comparedOf c (matchesTo hit columns (length firsts)) (length firsts) work list)
+        go hit columns d =
+            let cells = matchesTo hit columns (length firsts) in
+            let n = counted hit columns d in
+            let v = entered hit columns d in
+            let s = holds-same list₁ list ll in
+            let k : links ≡ pairs (c .b) cells = l .exact hit columns d ∙ ap (λ (q : ℕ). pairs q cells) eb in
+            let z = v .counted in
+            let fits : 5 * listed ≤ length list₁ = room-for list₁ listed g in
+            let answer : doneWith listed (counts .matches) (counts .widest) links ≡ doneWith (length (listingOf c cells)) (length cells) (largestRun (c .b) cells (length firsts)) (pairs (c .b) cells) =
+            λ i. doneWith (z i) (n .0 i) (n .1 i) (k i) in
+            let entries = v .entries fits in
+            let size : length (laid (entryNumbers (c .k)) (listingOf c cells)) ≡ 5 * listed = ap length (sym entries) ∙ length-take-le (5 * listed) list₁ fits in
+            let rest : length list₁ - 5 * listed ≡ length list - length (laid (entryNumbers (c .k)) (listingOf c cells)) = omega arith in
+            outcome-path (er ∙ answer) (ew ∙ zeros-same work₁ work lw)
+            (el ∙ ap (λ (q : List ℕ). q ++ replicate (length list₁ - 5 * listed) 0) entries ∙ ap (λ (q : ℕ). laid (entryNumbers (c .k)) (listingOf c cells) ++ replicate q 0) rest)
+            ∙ table-0 c cells (length firsts) work list (omega (arith, n .1)) (omega arith)
+
+-- ---- the stopped sweep
+
+module _ (firsts nexts : List ℕ) (c : Settings) (work : List ℕ) (row b : ℕ) (eb : b ≡ c .b) (counts : Counts) (n : Counted firsts nexts b counts) where
+  pub stopped-7 : (work′ : List ℕ) (r : Answer) → workHolds work < counts .widest → r ≡ refusal 7 0 (counts .widest) → work′ ≡ zeros work → StopsMatches firsts nexts c row work work′ r
+  unfolding zeroed zeros
+  stopped-7 work′ r h er ew =
+      record {
+        outcome = λ hit columns d.
+            let e = counted firsts nexts c work [] b eb counts n hit columns d .1 in
+            outcome-path (er ∙ ap (refusal 7 0) e) ew refl ∙ stop-7 c (matchesTo hit columns (length firsts)) (length firsts) work row (omega arith);
+      }
+
+  pub stopped-19 : (work′ : List ℕ) (r : Answer) → counts .widest ≤ workHolds work → length firsts < row → r ≡ refusal 19 0 (length firsts) → work′ ≡ zeros work
+      → StopsMatches firsts nexts c row work work′ r
+  unfolding zeroed zeros
+  stopped-19 work′ r h g er ew =
+      record {
+        outcome = λ hit columns d.
+            let e = counted firsts nexts c work [] b eb counts n hit columns d .1 in
+            outcome-path er ew refl ∙ stop-19 c (matchesTo hit columns (length firsts)) (length firsts) work row (omega arith) g;
+      }
+
+  pub stopped-0 : (work′ : List ℕ) (r : Answer) (held links : ℕ) → counts .widest ≤ workHolds work → row ≤ length firsts
+      → Holds firsts nexts (counts .widest) c row work work′ held → Linked firsts nexts b links → r ≡ doneWith held (counts .matches) (counts .widest) links
+      → StopsMatches firsts nexts c row work work′ r
+  unfolding doneWith
+  stopped-0 work′ r held links h g a l er = record { outcome = go }
+    where
+      go : (hit : Cell → Bool) (columns : ℕ) → Described hit columns firsts nexts
+          → _≡_ {A = Outcome} (record { answer = r; work = work′; list = [] }) (stoppedOf c (matchesTo hit columns (length firsts)) (length firsts) work row)
+      go hit columns d =
+          let cells = matchesTo hit columns (length firsts) in
+          let m = counted firsts nexts c work [] b eb counts n hit columns d in
+          let v = a .held hit columns d (m .1) in
+          let k : links ≡ pairs (c .b) cells = l .exact hit columns d ∙ ap (λ (q : ℕ). pairs q cells) eb in
+          let answer : doneWith held (counts .matches) (counts .widest) links ≡ doneWith (length (runOf c cells row)) (length cells) (largestRun (c .b) cells (length firsts)) (pairs (c .b) cells) =
+          λ i. doneWith (v .0 i) (m .0 i) (m .1 i) (k i) in
+          outcome-path (er ∙ answer) (v .1) refl ∙ stop-0 c cells (length firsts) work row (omega (arith, m .1)) g

@@ -1,0 +1,151 @@
+-- `jobs::compare_matches` meets its contract: each return is a line of the table. Assumes nothing.
+use mathlib.Core.Path.{_≡_, ap, _∙_}
+use Prim.Native.Nat.{ℕ, _*_, _≤_}
+use native.Mathlib.Omega.{arith}
+use lib.ListN.{length}
+use Rattle.rules.specs.Rooms.{workHolds, listHolds}
+use Rattle.jobs.proofs.Outcomes.{compare-7, compare-8, compare-0}
+use borrow.Author.Needs.{needs}
+use Rattle.jobs.proofs.compare_matches.Statement.{statement}
+use Rattle.jobs.proofs.compare_matches.Tie as tie
+
+wide-requires : tie.Need-wide-requires
+wide-requires c κs = search needs
+
+count-matches-requires : tie.Need-count-matches-requires
+count-matches-requires c κs = c .before .before .before .before .before .pre .walks
+
+record-count-requires : tie.Need-record-count-requires
+record-count-requires c κs = search needs
+
+zero-all-requires : tie.Need-zero-all-requires
+zero-all-requires c κs = search needs
+
+zero-all-requires-2 : tie.Need-zero-all-requires-2
+zero-all-requires-2 c κs = search needs
+
+refuse-requires : tie.Need-refuse-requires
+refuse-requires c κs = search needs
+
+same-length : tie.Need-same-length
+same-length c = search needs
+
+same-length-2 : tie.Need-same-length-2
+same-length-2 c = search needs
+
+returns : tie.Need-returns
+returns c =
+    let e = c in
+    let y = c .before .before .before in
+    let x = c .before .before .before .before .before .before .before in
+    let q = c .before .before .before .before .before .before .before .before .before in
+    let n = c .before .before .before .before .before .before .before .before .before .before .before .before in
+    let w = c .before .before .before .before .before .before .before .before .before .before .before .before .before in
+    let s = c .before .before .before .before .before .before .before .before .before .before .before .before .before .before .before .before .before .before in
+    let a = s .args in
+    compare-7 (a .firsts .now) (a .nexts .now) (a .c) (a .work .now) (a .list .now) (w .wide .result) (w .wide .ensures) (n .count-matches .result) (n .count-matches .ensures) (x .zero-all .last .0) (y .zero-all2 .last .0) (e .refuse .result) (omega (arith, q .before .record-count .ensures, q .if1 .taken)) (e .refuse .ensures) (x .zero-all .ensures) (y .zero-all2 .ensures)
+
+list-matches-requires : tie.Need-list-matches-requires
+unfolding workHolds
+list-matches-requires c κs =
+    let q = c .before .before in
+    let n = c .before .before .before .before .before in
+    let s = c .before .before .before .before .before .before .before .before .before .before .before in
+    let a = s .args in
+    (s .pre, (omega (arith, q .before .record-count .ensures, q .if1 .left), omega (arith, n .count-matches .ensures .few, n .count-matches .ensures .narrow, s .pre .walks .few-rows)))
+
+zero-all-requires-3 : tie.Need-zero-all-requires-3
+zero-all-requires-3 c κs = search needs
+
+entry-count-requires : tie.Need-entry-count-requires
+entry-count-requires c κs = search needs
+
+zero-all-requires-4 : tie.Need-zero-all-requires-4
+zero-all-requires-4 c κs = search needs
+
+refuse-requires-2 : tie.Need-refuse-requires-2
+refuse-requires-2 c κs = search needs
+
+same-length-3 : tie.Need-same-length-3
+same-length-3 c = search needs
+
+same-length-4 : tie.Need-same-length-4
+same-length-4 c = search needs
+
+returns-2 : tie.Need-returns-2
+returns-2 c =
+    let e = c in
+    let y = c .before .before .before in
+    let t = c .before .before .before .before .before in
+    let x = c .before .before .before .before .before .before .before .before .before .before in
+    let m = c .before .before .before .before .before .before .before .before .before .before .before .before .before .before .before .before in
+    let q = c .before .before .before .before .before .before .before .before .before .before .before .before .before .before .before .before .before .before .before in
+    let n = c .before .before .before .before .before .before .before .before .before .before .before .before .before .before .before .before .before .before .before .before .before .before in
+    let w = c .before .before .before .before .before .before .before .before .before .before .before .before .before .before .before .before .before .before .before .before .before .before .before in
+    let s = c .before .before .before .before .before .before .before .before .before .before .before .before .before .before .before .before .before .before .before .before .before .before .before .before .before .before .before .before in
+    let a = s .args in
+    compare-8 (a .firsts .now) (a .nexts .now) (a .c) (a .work .now) (a .list .now) (w .wide .result) (w .wide .ensures) (n .count-matches .result) (n .count-matches .ensures) (m .list-matches .last .1 .1 .1 .1 .0) (m .list-matches .last .1 .1 .1 .1 .1 .0) (m .list-matches .result) (omega (arith, q .before .record-count .ensures, q .if1 .left)) (m .list-matches .kept .1 .1 .1 .1 .0) (m .list-matches .kept .1 .1 .1 .1 .1 .0) (m .list-matches .ensures) (x .zero-all3 .last .0) (y .zero-all4 .last .0) (e .refuse2 .result) (omega (arith, t .before .entry-count .ensures, t .if2 .taken)) (e .refuse2 .ensures) (x .zero-all3 .ensures) (y .zero-all4 .ensures)
+
+zero-after-entries-requires : tie.Need-zero-after-entries-requires
+unfolding listHolds
+zero-after-entries-requires c κs =
+    let t = c .before in
+    let m = c .before .before .before .before .before .before .before .before .before .before .before .before in
+    let s = c .before .before .before .before .before .before .before .before .before .before .before .before .before .before .before .before .before .before .before .before .before .before .before .before in
+    let a = s .args in
+    omega (arith, t .before .entry-count .ensures, t .if2 .left, m .list-matches .kept .1 .1 .1 .1 .1 .0, s .good .1 .1 .1 .1 .0)
+
+count-links-requires : tie.Need-count-links-requires
+count-links-requires c κs = c .before .before .before .before .before .before .before .before .before .before .before .before .before .before .before .before .before .before .before .before .before .before .before .before .before .before .before .pre .walks
+
+done-requires : tie.Need-done-requires
+done-requires c κs = search needs
+
+same-length-5 : tie.Need-same-length-5
+same-length-5 c = search needs
+
+same-length-6 : tie.Need-same-length-6
+same-length-6 c = search needs
+
+returns-3 : tie.Need-returns-3
+returns-3 c =
+    let e = c in
+    let l = c .before in
+    let y = c .before .before .before .before in
+    let t = c .before .before .before .before .before .before in
+    let x = c .before .before .before .before .before .before .before .before .before .before .before in
+    let m = c .before .before .before .before .before .before .before .before .before .before .before .before .before .before .before .before .before in
+    let q = c .before .before .before .before .before .before .before .before .before .before .before .before .before .before .before .before .before .before .before .before in
+    let n = c .before .before .before .before .before .before .before .before .before .before .before .before .before .before .before .before .before .before .before .before .before .before .before in
+    let w = c .before .before .before .before .before .before .before .before .before .before .before .before .before .before .before .before .before .before .before .before .before .before .before .before in
+    let s = c .before .before .before .before .before .before .before .before .before .before .before .before .before .before .before .before .before .before .before .before .before .before .before .before .before .before .before .before .before in
+    let a = s .args in
+    compare-0 (a .firsts .now) (a .nexts .now) (a .c) (a .work .now) (a .list .now) (w .wide .result) (w .wide .ensures) (n .count-matches .result) (n .count-matches .ensures) (m .list-matches .last .1 .1 .1 .1 .0) (m .list-matches .last .1 .1 .1 .1 .1 .0) (m .list-matches .result) (omega (arith, q .before .record-count .ensures, q .if1 .left)) (m .list-matches .kept .1 .1 .1 .1 .0) (m .list-matches .kept .1 .1 .1 .1 .1 .0) (m .list-matches .ensures) (x .zero-all3 .last .0) (y .zero-after-entries .last .0) (e .done .result) (l .count-links .result) (omega (arith, t .before .entry-count .ensures, t .if2 .left)) (l .count-links .ensures) (e .done .ensures) (x .zero-all3 .ensures) (y .zero-after-entries .ensures)
+
+pub compare-matches-spec : {M : Type 1} → statement M
+compare-matches-spec =
+    tie.close
+    (tie.spec
+    wide-requires
+    count-matches-requires
+    record-count-requires
+    zero-all-requires
+    zero-all-requires-2
+    refuse-requires
+    same-length
+    same-length-2
+    returns
+    list-matches-requires
+    zero-all-requires-3
+    entry-count-requires
+    zero-all-requires-4
+    refuse-requires-2
+    same-length-3
+    same-length-4
+    returns-2
+    zero-after-entries-requires
+    count-links-requires
+    done-requires
+    same-length-5
+    same-length-6
+    returns-3)

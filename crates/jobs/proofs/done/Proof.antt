@@ -1,0 +1,12 @@
+-- `jobs::done` meets its contract: it is the definition. Assumes nothing.
+use mathlib.Core.Path.{refl}
+use Rattle.jobs.specs.Jobs.{doneWith}
+use Rattle.jobs.proofs.done.Statement.{statement}
+use Rattle.jobs.proofs.done.Tie as tie
+
+returns : tie.Need-returns
+unfolding doneWith
+returns c = refl
+
+pub done-spec : {M : Type 1} → statement M
+done-spec = tie.close (tie.spec returns)

@@ -1,0 +1,73 @@
+-- `jobs::hold` meets its contract: with W 0 no run has a record, and else the sweep of the first rows leaves the run. Assumes nothing.
+use mathlib.Core.Path.{_≡_, sym, ap, _∙_}
+use Prim.Native.Nat.{ℕ, _-_}
+use native.Mathlib.Omega.{arith}
+use lib.Seq.{length-take-le}
+use Rattle.jobs.proofs.Outcomes.{hold-safe, holds-none, holds-swept}
+use borrow.Author.Needs.{needs}
+use Rattle.jobs.proofs.hold.Statement.{statement}
+use Rattle.jobs.proofs.hold.Tie as tie
+
+zero-all-requires : tie.Need-zero-all-requires
+zero-all-requires c κs = search needs
+
+same-length : tie.Need-same-length
+same-length c = search needs
+
+returns : tie.Need-returns
+returns c =
+    let d = c .before .before in
+    let a = d .before .before .before .before .before .before .args in
+    holds-none (a .firsts .now) (a .nexts .now) (a .work .now) (d .zero-all .last .0) (a .c) (a .widest) (a .row) (d .before .before .if1 .taken) (d .zero-all .ensures)
+
+wide-requires : tie.Need-wide-requires
+wide-requires c κs = search needs
+
+before-run-requires : tie.Need-before-run-requires
+before-run-requires c κs = search needs
+
+matches-before-requires : tie.Need-matches-before-requires
+matches-before-requires c κs = let s = c .before .before .before .before .before .before in (s .pre .0 .walks, omega (arith, c .before-run .ensures, s .pre .1 .1 .1))
+
+ring-from-requires : tie.Need-ring-from-requires
+ring-from-requires c κs = let e = c .before .before .before in let s = e .before .before .before .before in let n = e .if1 .left in (omega arith, s .pre .1 .1 .0)
+
+slice-aggregate-hold-run : tie.Need-slice-aggregate-hold-run
+slice-aggregate-hold-run c = let s = c .before .before .before .before .before .before .before .before .before in sym (length-take-le (s .args .row) (s .args .firsts .now) (s .pre .1 .1 .1))
+
+hold-run-requires : tie.Need-hold-run-requires
+hold-run-requires c κs =
+    let r = c .before .before in
+    let s = r .before .before .before .before .before .before .before .before in
+    let a = s .args in
+    hold-safe (a .firsts .now) (a .nexts .now) (a .work .now) (a .c) (a .widest) (r .before .matches-before .result) (a .row) (r .ring-from .result) (s .pre .0) (s .pre .1 .0) (s .pre .1 .1 .1) (r .ring-from .ensures)
+
+same-length-2 : tie.Need-same-length-2
+same-length-2 c = search needs
+
+returns-2 : tie.Need-returns-2
+returns-2 c =
+    let h = c .before .before in
+    let r = h .before .before .before in
+    let m = r .before in
+    let p = m .before in
+    let s = r .before .before .before .before .before .before .before .before in
+    let a = s .args in
+    holds-swept (a .firsts .now) (a .nexts .now) (a .work .now) (h .hold-run .last .1 .1 .0) (a .c) (a .widest) (a .row) (p .before-run .result) (m .matches-before .result) (h .hold-run .result) (r .ring-from .result) (s .pre .1 .1 .1)
+    (p .before-run .ensures ∙ ap (λ (b : ℕ). a .row - b - 1) (p .before .wide .ensures)) (m .matches-before .ensures) (r .ring-from .ensures) (h .hold-run .ensures)
+
+pub hold-spec : {M : Type 1} → statement M
+hold-spec =
+    tie.close
+    (tie.spec
+    zero-all-requires
+    same-length
+    returns
+    wide-requires
+    before-run-requires
+    matches-before-requires
+    ring-from-requires
+    slice-aggregate-hold-run
+    hold-run-requires
+    same-length-2
+    returns-2)

@@ -1,0 +1,31 @@
+-- `jobs::list_matches` meets its contract: with W 0 there is nothing to list, and else the sweep lists all. Assumes nothing.
+use Rattle.jobs.proofs.Outcomes.{sweep-safe, lists-none, lists-swept}
+use borrow.Author.Needs.{needs}
+use Rattle.jobs.proofs.list_matches.Statement.{statement}
+use Rattle.jobs.proofs.list_matches.Tie as tie
+
+returns : tie.Need-returns
+returns c = let a = c .before .before .before .before .before .args in lists-none (a .firsts .now) (a .nexts .now) (a .list .now) (a .c) (a .widest) (c .if1 .taken)
+
+list-all-requires : tie.Need-list-all-requires
+list-all-requires c κs =
+    let e = c .before .before in
+    let s = e .before .before .before .before .before in
+    let a = s .args in
+    sweep-safe (a .firsts .now) (a .nexts .now) (a .work .now) (a .c) (a .widest) (s .pre .0) (s .pre .1 .0) (s .pre .1 .1) (e .if1 .left)
+
+same-length : tie.Need-same-length
+same-length c = search needs
+
+same-length-2 : tie.Need-same-length-2
+same-length-2 c = search needs
+
+returns-2 : tie.Need-returns-2
+returns-2 c =
+    let d = c .before .before .before .before in
+    let a = d .before .before .before .before .before .before .before .before .args in
+    lists-swept (a .firsts .now) (a .nexts .now) (d .list-all .last .1 .1 .1 .1 .1 .0) (a .c) (a .widest) (d .list-all .result) (d .list-all .ensures)
+
+pub list-matches-spec : {M : Type 1} → statement M
+list-matches-spec =
+    tie.close (tie.spec returns list-all-requires same-length same-length-2 returns-2)

@@ -1,0 +1,111 @@
+-- `jobs::stop_matches` meets its contract: each return is a line of the table. Assumes nothing.
+use mathlib.Core.Path.{_≡_, ap, _∙_}
+use native.Mathlib.Omega.{arith}
+use Rattle.rules.specs.Rooms.{workHolds}
+use Rattle.jobs.proofs.Outcomes.{stopped-7, stopped-19, stopped-0}
+use borrow.Author.Needs.{needs}
+use Rattle.jobs.proofs.stop_matches.Statement.{statement}
+use Rattle.jobs.proofs.stop_matches.Tie as tie
+
+wide-requires : tie.Need-wide-requires
+wide-requires c κs = search needs
+
+count-matches-requires : tie.Need-count-matches-requires
+count-matches-requires c κs = c .before .before .before .before .pre .walks
+
+record-count-requires : tie.Need-record-count-requires
+record-count-requires c κs = search needs
+
+zero-all-requires : tie.Need-zero-all-requires
+zero-all-requires c κs = search needs
+
+refuse-requires : tie.Need-refuse-requires
+refuse-requires c κs = search needs
+
+same-length : tie.Need-same-length
+same-length c = search needs
+
+returns : tie.Need-returns
+returns c =
+    let e = c in
+    let x = c .before .before .before in
+    let q = c .before .before .before .before .before in
+    let n = c .before .before .before .before .before .before .before .before in
+    let w = c .before .before .before .before .before .before .before .before .before in
+    let s = c .before .before .before .before .before .before .before .before .before .before .before .before .before in
+    let a = s .args in
+    stopped-7 (a .firsts .now) (a .nexts .now) (a .c) (a .work .now) (a .row) (w .wide .result) (w .wide .ensures) (n .count-matches .result) (n .count-matches .ensures) (x .zero-all .last .0) (e .refuse .result) (omega (arith, q .before .record-count .ensures, q .if1 .taken)) (e .refuse .ensures) (x .zero-all .ensures)
+
+zero-all-requires-2 : tie.Need-zero-all-requires-2
+zero-all-requires-2 c κs = search needs
+
+refuse-requires-2 : tie.Need-refuse-requires-2
+refuse-requires-2 c κs = search needs
+
+same-length-2 : tie.Need-same-length-2
+same-length-2 c = search needs
+
+returns-2 : tie.Need-returns-2
+returns-2 c =
+    let e = c in
+    let x = c .before .before .before in
+    let t = c .before .before .before .before .before in
+    let q = c .before .before .before .before .before .before in
+    let n = c .before .before .before .before .before .before .before .before .before in
+    let w = c .before .before .before .before .before .before .before .before .before .before in
+    let s = c .before .before .before .before .before .before .before .before .before .before .before .before .before .before in
+    let a = s .args in
+    stopped-19 (a .firsts .now) (a .nexts .now) (a .c) (a .work .now) (a .row) (w .wide .result) (w .wide .ensures) (n .count-matches .result) (n .count-matches .ensures) (x .zero-all2 .last .0) (e .refuse2 .result) (omega (arith, q .before .record-count .ensures, q .if1 .left)) (t .if2 .taken) (e .refuse2 .ensures) (x .zero-all2 .ensures)
+
+hold-requires : tie.Need-hold-requires
+unfolding workHolds
+hold-requires c κs =
+    let t = c .before in
+    let q = c .before .before in
+    let n = c .before .before .before .before .before in
+    let s = c .before .before .before .before .before .before .before .before .before .before in
+    let a = s .args in
+    (s .pre, (omega (arith, q .before .record-count .ensures, q .if1 .left), (omega (arith, n .count-matches .ensures .few, n .count-matches .ensures .narrow, s .pre .walks .few-rows), t .if2 .left)))
+
+count-links-requires : tie.Need-count-links-requires
+count-links-requires c κs = c .before .before .before .before .before .before .before .before .before .before .before .before .before .pre .walks
+
+done-requires : tie.Need-done-requires
+done-requires c κs = search needs
+
+same-length-3 : tie.Need-same-length-3
+same-length-3 c = search needs
+
+returns-3 : tie.Need-returns-3
+returns-3 c =
+    let e = c in
+    let l = c .before in
+    let m = c .before .before .before .before in
+    let t = c .before .before .before .before .before .before in
+    let q = c .before .before .before .before .before .before .before in
+    let n = c .before .before .before .before .before .before .before .before .before .before in
+    let w = c .before .before .before .before .before .before .before .before .before .before .before in
+    let s = c .before .before .before .before .before .before .before .before .before .before .before .before .before .before .before in
+    let a = s .args in
+    stopped-0 (a .firsts .now) (a .nexts .now) (a .c) (a .work .now) (a .row) (w .wide .result) (w .wide .ensures) (n .count-matches .result) (n .count-matches .ensures) (m .hold .last .1 .1 .1 .1 .0) (e .done .result) (m .hold .result) (l .count-links .result) (omega (arith, q .before .record-count .ensures, q .if1 .left)) (t .if2 .left) (m .hold .ensures) (l .count-links .ensures) (e .done .ensures)
+
+pub stop-matches-spec : {M : Type 1} → statement M
+stop-matches-spec =
+    tie.close
+    (tie.spec
+    wide-requires
+    count-matches-requires
+    record-count-requires
+    zero-all-requires
+    refuse-requires
+    same-length
+    returns
+    zero-all-requires-2
+    refuse-requires-2
+    same-length-2
+    returns-2
+    hold-requires
+    count-links-requires
+    done-requires
+    same-length-3
+    returns-3)

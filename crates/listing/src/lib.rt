@@ -1,0 +1,146 @@
+// Rows that leave the room: a record is released once no later row can extend it, and then it is known whether its match is listed.
+use predecessors::Ring;
+use rules::Record;
+use rules::Settings;
+ghost use mathlib.Core.Path.{_≡_};
+ghost use Prim.Native.Nat.{_+_, _-_, _*_, _^_, _≤_, _<_};
+ghost use lib.ListN.{length};
+ghost use Rattle.predecessors.specs.Numbers.{RingFits};
+ghost use Rattle.listing.specs.Leaving.{laterIn, someAfter, passes, listedCount, listedRoom, ReleaseSafe, ReleaseDone};
+
+// Whether a match goes on in column q: the column's latest record lies after record t, and in a later row.
+fn goes_on(room: &[u32], latest: &[u32], ring: Ring, t: usize, row: u32, q: usize) -> bool
+    requires { ⌜ RingFits ring ⌝ }
+    requires { ⌜ 8 * ring .size ≤ length (now room) ⌝ }
+    requires { ⌜ t < 2 ^ 32 ⌝ }
+    ensures { λ r. ⌜ r ≡ laterIn (now (room .entry)) (now (latest .entry)) ring t row q ⌝ }
+{
+    if latest.len() <= q {
+        return false;
+    }
+    let s = latest[q] as usize;
+    if s <= t + 1 {
+        return false;
+    }
+    let y = rooms::record_at(room, predecessors::slot(ring, s));
+    row < y.cell.row
+}
+
+// Whether record t, the match x, is not closed: some match lies 1 to b rows and 1 to b columns on. At most b columns are looked at, and few where
+// matches are many.
+fn is_open(room: &[u32], latest: &[u32], ring: Ring, t: usize, x: Record, b: usize) -> bool
+    requires { ⌜ RingFits ring ⌝ }
+    requires { ⌜ 8 * ring .size ≤ length (now room) ⌝ }
+    requires { ⌜ t < 2 ^ 32 ⌝ }
+    requires { ⌜ b < 2 ^ 32 ⌝ }
+    ensures { λ r. ⌜ r ≡ someAfter (laterIn (now (room .entry)) (now (latest .entry)) ring t (x .cell .row)) (x .cell .column) b ⌝ }
+{
+    let row = x.cell.row;
+    let j = predecessors::wide(x.cell.column);
+    let mut n: usize = 0;
+    while n < b {
+        n += 1;
+        if goes_on(room, latest, ring, t, row, j + n) {
+            return true;
+        }
+    }
+    false
+}
+
+// The bases from a start to the end of the k-mer that begins at `last`.
+fn span(last: u32, k: u32, start: u32) -> u64
+    ensures { λ r. ⌜ r ≡ last + k - start ⌝ }
+{
+    let ends = last as u64 + k as u64;
+    let begins = start as u64;
+    if begins < ends {
+        return ends - begins;
+    }
+    0
+}
+
+// Whether record t, the match x, is listed: closed, and both spans at least m. The spans are tested first, since they cost least.
+fn is_listed(room: &[u32], latest: &[u32], ring: Ring, t: usize, x: Record, c: Settings) -> bool
+    requires { ⌜ RingFits ring ⌝ }
+    requires { ⌜ 8 * ring .size ≤ length (now room) ⌝ }
+    requires { ⌜ t < 2 ^ 32 ⌝ }
+    ensures { λ r. ⌜ r ≡ passes (now (room .entry)) (now (latest .entry)) ring t x c ⌝ }
+{
+    let m = c.m as u64;
+    if span(x.cell.row, c.k, x.start.row) < m {
+        return false;
+    }
+    if span(x.cell.column, c.k, x.start.column) < m {
+        return false;
+    }
+    let b = predecessors::wide(c.b);
+    if is_open(room, latest, ring, t, x, b) {
+        return false;
+    }
+    true
+}
+
+// Lists record t, the match x, behind n entries if it is listed, and returns how many there are then: also those that the list room cannot hold.
+fn list_record(
+    room: &[u32],
+    latest: &[u32],
+    ring: Ring,
+    t: usize,
+    x: Record,
+    c: Settings,
+    list: &mut [u32],
+    n: usize,
+) -> usize
+    requires { ⌜ RingFits ring ⌝ }
+    requires { ⌜ 8 * ring .size ≤ length (now room) ⌝ }
+    requires { ⌜ t < 2 ^ 32 ⌝ }
+    requires { ⌜ n < 2 ^ 32 ⌝ }
+    requires { ⌜ 1 ≤ c .k ⌝ }
+    ensures { λ r. ⌜ r ≡ listedCount (passes (now (room .entry)) (now (latest .entry)) ring t x c) n ⌝ }
+    ensures { λ _. ⌜ now (list .exit) ≡ listedRoom (passes (now (room .entry)) (now (latest .entry)) ring t x c) (c .k) x (now (list .entry)) n ⌝ }
+{
+    if is_listed(room, latest, ring, t, x, c) {
+        if n < rooms::entry_count(list) {
+            rooms::put_entry(list, n, c.k, x);
+            return n + 1;
+        }
+        return n + 1;
+    }
+    n
+}
+
+pub struct Released {
+    // the number of the first record that is still held
+    pub tail: usize,
+    // the entries so far
+    pub listed: usize,
+}
+
+// Releases every row below i - b, and lists those of its matches that are to be listed: by row, then column, as they were stored. One step a record.
+pub fn release(
+    room: &[u32],
+    latest: &[u32],
+    ring: Ring,
+    tail: usize,
+    head: usize,
+    c: Settings,
+    i: usize,
+    list: &mut [u32],
+    listed: usize,
+) -> Released
+    requires { ⌜ ReleaseSafe (now room) ring tail head c listed ⌝ }
+    ensures { λ r. ⌜ ReleaseDone c i (now (room .entry)) (now (latest .entry)) ring tail head (now (list .entry)) listed (now (list .exit)) r ⌝ }
+{
+    let b = predecessors::wide(c.b);
+    let mut t = tail;
+    let mut n = listed;
+    while t < head {
+        let x = rooms::record_at(room, predecessors::slot(ring, t + 1));
+        if i <= predecessors::wide(x.cell.row) + b {
+            return Released { tail: t, listed: n };
+        }
+        n = list_record(room, latest, ring, t, x, c, list, n);
+        t += 1;
+    }
+    Released { tail: t, listed: n }
+}

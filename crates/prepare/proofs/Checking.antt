@@ -1,0 +1,112 @@
+-- The checks in order: the first whose test passes is given, and a job that none refuses is accepted. Assumes nothing.
+use mathlib.Core.Path.{_≡_, refl, sym, ap, subst, _∙_}
+use mathlib.Core.Logic.{_⊎_, inl, inr}
+use mathlib.Core.Bool.{Bool, true, false, cond, _||_}
+use mathlib.Core.List.{List}
+use Prim.Native.Nat.{ℕ, _≤_, _<_}
+use native.Mathlib.Omega.{arith}
+use borrow.Author.Tests.{lt-ltb, le-ltb, ltb-false}
+use lib.Dec.{T, ltb}
+use lib.ListN.{length}
+use Rattle.rules.specs.declared.Settings.{Settings}
+use Rattle.rules.specs.declared.Answer.{Answer}
+use Rattle.rules.specs.Letters.{badPlace}
+use Rattle.rules.specs.Answers.{firstOf, refusal, outside, checked}
+use Rattle.rules.proofs.Tests.{tests, tested}
+use Rattle.prepare.specs.Prepared.{Accepted}
+
+-- outside by the first test or by the second
+pub below-low : (low high n : ℕ) → n < low → outside low high n ≡ true
+unfolding outside
+below-low low high n h = rw (lt-ltb n low h)
+
+pub not-below : (low high n : ℕ) → low ≤ n → outside low high n ≡ ltb high n
+unfolding outside
+not-below low high n h = rw (le-ltb n low h)
+
+-- ---- each refusal, where none before it applies
+
+module _ (c : Settings) (first second : List ℕ) where
+  pub check-1 : outside 1 31 (c .k) ≡ true → refusal 1 0 0 ≡ checked c first second
+  unfolding checked firstOf
+  check-1 e1 = rw (e1)
+
+  pub check-2 : outside 1 31 (c .k) ≡ false → outside 1 1024 (c .b) ≡ true → refusal 2 0 0 ≡ checked c first second
+  unfolding checked firstOf
+  check-2 e1 e2 = rw (e1, e2)
+
+  pub check-3 : outside 1 31 (c .k) ≡ false → outside 1 1024 (c .b) ≡ false → outside 1 1024 (c .a) ≡ true → refusal 3 0 0 ≡ checked c first second
+  unfolding checked firstOf
+  check-3 e1 e2 e3 = rw (e1, e2, e3)
+
+  pub check-4 : outside 1 31 (c .k) ≡ false → outside 1 1024 (c .b) ≡ false → outside 1 1024 (c .a) ≡ false → outside 0 16384 (c .m) ≡ true → refusal 4 0 0 ≡ checked c first second
+  unfolding checked firstOf
+  check-4 e1 e2 e3 e4 = rw (e1, e2, e3, e4)
+
+  pub check-5 : outside 1 31 (c .k) ≡ false → outside 1 1024 (c .b) ≡ false → outside 1 1024 (c .a) ≡ false → outside 0 16384 (c .m) ≡ false → ltb 16384 (length first) ≡ true → refusal 5 1 0 ≡ checked c first second
+  unfolding checked firstOf
+  check-5 e1 e2 e3 e4 e5 = rw (e1, e2, e3, e4, e5)
+
+  pub check-6 : outside 1 31 (c .k) ≡ false → outside 1 1024 (c .b) ≡ false → outside 1 1024 (c .a) ≡ false → outside 0 16384 (c .m) ≡ false → ltb 16384 (length first) ≡ false → ltb 16384 (length second) ≡ true → refusal 5 2 0 ≡ checked c first second
+  unfolding checked firstOf
+  check-6 e1 e2 e3 e4 e5 e6 = rw (e1, e2, e3, e4, e5, e6)
+
+  pub check-7 : outside 1 31 (c .k) ≡ false → outside 1 1024 (c .b) ≡ false → outside 1 1024 (c .a) ≡ false → outside 0 16384 (c .m) ≡ false → ltb 16384 (length first) ≡ false → ltb 16384 (length second) ≡ false → ltb 0 (badPlace first) ≡ true → refusal 6 1 (badPlace first) ≡ checked c first second
+  unfolding checked firstOf
+  check-7 e1 e2 e3 e4 e5 e6 e7 = rw (e1, e2, e3, e4, e5, e6, e7)
+
+  pub check-8 : outside 1 31 (c .k) ≡ false → outside 1 1024 (c .b) ≡ false → outside 1 1024 (c .a) ≡ false → outside 0 16384 (c .m) ≡ false → ltb 16384 (length first) ≡ false → ltb 16384 (length second) ≡ false → ltb 0 (badPlace first) ≡ false → ltb 0 (badPlace second) ≡ true → refusal 6 2 (badPlace second) ≡ checked c first second
+  unfolding checked firstOf
+  check-8 e1 e2 e3 e4 e5 e6 e7 e8 = rw (e1, e2, e3, e4, e5, e6, e7, e8)
+
+  pub check-9 : outside 1 31 (c .k) ≡ false → outside 1 1024 (c .b) ≡ false → outside 1 1024 (c .a) ≡ false → outside 0 16384 (c .m) ≡ false → ltb 16384 (length first) ≡ false → ltb 16384 (length second) ≡ false → ltb 0 (badPlace first) ≡ false → ltb 0 (badPlace second) ≡ false → refusal 0 0 0 ≡ checked c first second
+  unfolding checked firstOf
+  check-9 e1 e2 e3 e4 e5 e6 e7 e8 = rw (e1, e2, e3, e4, e5, e6, e7, e8)
+
+-- ---- a job that is not refused
+
+number-of : (t : Bool) (n q d : ℕ) (a : Answer) → cond t (refusal n q d) a .number ≡ 0 → (n ≡ 0 → ⊥) → (t ≡ false) × (a .number ≡ 0)
+unfolding refusal
+number-of true n q d a e h = absurd (h e)
+number-of false n q d a e h = (refl, e)
+
+inside : (low high n : ℕ) → outside low high n ≡ false → (low ≤ n) × (n ≤ high)
+unfolding outside
+inside low high n e = go (tested (outside low high n))
+  where
+    go : T (outside low high n) ⊎ (¬ T (outside low high n)) → (low ≤ n) × (n ≤ high)
+    go (inl t) = absurd (subst T e t)
+    go (inr f) =
+        let a : ¬ (n < low) = λ h. f (simp tests (λ k. absurd (k h))) in
+        let b : ¬ (high < n) = λ h. f (simp tests (λ _. h)) in
+        (omega arith, omega arith)
+
+pub accepted : (c : Settings) (first second : List ℕ) → checked c first second .number ≡ 0 → Accepted c first second
+unfolding checked
+accepted c first second e =
+    let n1 = number-of (outside 1 31 (c .k)) 1 0 0 _ e (λ z. omega arith) in
+    let n2 = number-of (outside 1 1024 (c .b)) 2 0 0 _ (n1 .1) (λ z. omega arith) in
+    let n3 = number-of (outside 1 1024 (c .a)) 3 0 0 _ (n2 .1) (λ z. omega arith) in
+    let n4 = number-of (outside 0 16384 (c .m)) 4 0 0 _ (n3 .1) (λ z. omega arith) in
+    let n5 = number-of (ltb 16384 (length first)) 5 1 0 _ (n4 .1) (λ z. omega arith) in
+    let n6 = number-of (ltb 16384 (length second)) 5 2 0 _ (n5 .1) (λ z. omega arith) in
+    let k = inside 1 31 (c .k) (n1 .0) in
+    record { some-base = k .0; few-bases = k .1; short-first = ltb-false _ _ (n5 .0); short-second = ltb-false _ _ (n6 .0) }
+
+-- every refusal number is at most 6
+few : (t : Bool) (n q d : ℕ) (a : Answer) → n ≤ 6 → a .number ≤ 6 → cond t (refusal n q d) a .number ≤ 6
+unfolding refusal
+few true n q d a h g = h
+few false n q d a h g = g
+
+pub number-small : (c : Settings) (first second : List ℕ) → checked c first second .number ≤ 6
+unfolding checked
+number-small c first second =
+    few (outside 1 31 (c .k)) 1 0 0 _ (omega arith)
+    (few (outside 1 1024 (c .b)) 2 0 0 _ (omega arith)
+    (few (outside 1 1024 (c .a)) 3 0 0 _ (omega arith)
+    (few (outside 0 16384 (c .m)) 4 0 0 _ (omega arith)
+    (few (ltb 16384 (length first)) 5 1 0 _ (omega arith)
+    (few (ltb 16384 (length second)) 5 2 0 _ (omega arith)
+    (few (ltb 0 (badPlace first)) 6 1 (badPlace first) _ (omega arith)
+    (few (ltb 0 (badPlace second)) 6 2 (badPlace second) (refusal 0 0 0) (omega arith) (omega arith))))))))

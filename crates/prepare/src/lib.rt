@@ -1,0 +1,95 @@
+// What comes before a sweep: the checks that need no room, and the matches of two sequences as walks over columns.
+use rules::Answer;
+use rules::Settings;
+ghost use mathlib.Core.Path.{_≡_};
+ghost use Prim.Native.Nat.{_≤_};
+ghost use lib.ListN.{length};
+ghost use Rattle.rules.specs.Answers.{refusal, outside, checked};
+ghost use Rattle.prepare.specs.Prepared.{Accepted, Blank, Matched};
+
+pub fn wide(x: u32) -> usize
+    ensures { λ r. ⌜ r ≡ x ⌝ }
+{
+    x as usize
+}
+
+// The answer of a refusal: all four tallies are 0. Number 0 refuses nothing.
+pub fn refuse(number: u64, sequence: u64, detail: u64) -> Answer
+    ensures { λ r. ⌜ r ≡ refusal number sequence detail ⌝ }
+{
+    Answer {
+        number,
+        sequence,
+        detail,
+        listed: 0,
+        matches: 0,
+        widest: 0,
+        links: 0,
+    }
+}
+
+fn is_outside(low: u32, high: u32, n: u32) -> bool
+    ensures { λ r. ⌜ r ≡ outside low high n ⌝ }
+{
+    if n < low {
+        return true;
+    }
+    high < n
+}
+
+// Checks 1 to 6: the first that applies, or number 0. One step a letter.
+pub fn check(c: Settings, first: &[u8], second: &[u8]) -> Answer
+    ensures { λ r. ⌜ r ≡ checked c (now (first .entry)) (now (second .entry)) ⌝ }
+{
+    if is_outside(1, 31, c.k) {
+        return refuse(1, 0, 0);
+    }
+    if is_outside(1, 1024, c.b) {
+        return refuse(2, 0, 0);
+    }
+    if is_outside(1, 1024, c.a) {
+        return refuse(3, 0, 0);
+    }
+    if is_outside(0, 16384, c.m) {
+        return refuse(4, 0, 0);
+    }
+    if 16384 < first.len() {
+        return refuse(5, 1, 0);
+    }
+    if 16384 < second.len() {
+        return refuse(5, 2, 0);
+    }
+    let first_bad = letters::bad_place(first);
+    if 0 < first_bad {
+        return refuse(6, 1, first_bad as u64);
+    }
+    let second_bad = letters::bad_place(second);
+    if 0 < second_bad {
+        return refuse(6, 2, second_bad as u64);
+    }
+    refuse(0, 0, 0)
+}
+
+// The matches of an accepted job: for each row the first column it meets, for each column the next one with the same k-mer. A step a letter for the
+// codes, and near as little for the matches; the arrays hold codes and places, no records.
+pub fn match_up(c: Settings, first: &[u8], second: &[u8], firsts: &mut [u32], nexts: &mut [u32])
+    requires { ⌜ Accepted c (now first) (now second) ⌝ }
+    requires { ⌜ Blank (now firsts) ⌝ }
+    requires { ⌜ Blank (now nexts) ⌝ }
+    ensures { λ _. ⌜ Matched c (now (first .entry)) (now (second .entry)) (now (firsts .exit)) (now (nexts .exit)) ⌝ }
+{
+    let k = wide(c.k);
+    let mut first_codes = [0u64; 16384];
+    kmers::fill_codes(first, k, &mut first_codes);
+    let mut second_codes = [0u64; 16384];
+    kmers::fill_codes(second, k, &mut second_codes);
+    let rows = kmers::places(first.len(), k);
+    let columns = kmers::places(second.len(), k);
+    matches::find_matches(
+        &first_codes[..rows],
+        &second_codes[..columns],
+        c.a,
+        firsts,
+        nexts,
+    );
+}

@@ -1,0 +1,42 @@
+-- Where a record lies in work room and an entry in list room. Assumes nothing.
+use mathlib.Core.Path.{_≡_}
+use mathlib.Core.List.{List, [], _∷_}
+use Prim.Native.Nat.{ℕ, _+_, _-_, _*_, _%_, _^_, _<_}
+use lib.ListN.{getD}
+use lib.Seq.{sets}
+use Rattle.rules.specs.Matches.{cell}
+use Rattle.rules.specs.declared.Record.{Record}
+use Rattle.rules.specs.Rooms.{recordNumbers}
+
+-- the record in a slot
+unfoldable pub recordIn : List ℕ → ℕ → Record
+recordIn room slot =
+    record {
+      cell = cell (getD room (8 * slot) 0) (getD room (8 * slot + 1) 0);
+      weight = getD room (8 * slot + 2) 0;
+      start = cell (getD room (8 * slot + 3) 0) (getD room (8 * slot + 4) 0);
+    }
+
+-- all eight numbers of a slot are those of the record x
+pub record Holds (room : List ℕ) (slot : ℕ) (x : Record) : Type 0 where
+  pub numbers : (k : ℕ) → k < 8 → getD room (8 * slot + k) 0 ≡ getD (recordNumbers x) k 0
+
+-- the room with a record's numbers in a slot
+unfoldable pub putRecord : List ℕ → ℕ → Record → List ℕ
+unfolding recordNumbers
+putRecord room slot x = sets room (8 * slot) (recordNumbers x)
+
+-- an entry's numbers in 32 bits
+unfoldable pub entryIn32 : ℕ → Record → List ℕ
+entryIn32 k x =
+    x .start .row
+    ∷ ((x .cell .row + (k - 1)) % 2 ^ 32)
+    ∷ x .start .column
+    ∷ ((x .cell .column + (k - 1)) % 2 ^ 32)
+    ∷ x .weight
+    ∷ []
+
+-- the room with an entry's numbers behind n entries
+unfoldable pub putEntry : List ℕ → ℕ → ℕ → Record → List ℕ
+unfolding entryIn32
+putEntry list n k x = sets list (5 * n) (entryIn32 k x)

@@ -1,0 +1,45 @@
+-- `sweep::hold_run` meets its contract: what the room holds after the last row is its run, and the slots begin at 0. Assumes nothing.
+use native.Mathlib.Omega.{arith}
+use Rattle.sweep.proofs.Ending.{none-latest, holds-run}
+use borrow.Author.Needs.{needs}
+use Rattle.sweep.proofs.hold_run.Statement.{statement}
+use Rattle.sweep.proofs.hold_run.Tie as tie
+
+slice-aggregate-sweep : tie.Need-slice-aggregate-sweep
+slice-aggregate-sweep c = search needs
+
+slice-aggregate-sweep-2 : tie.Need-slice-aggregate-sweep-2
+slice-aggregate-sweep-2 c = search needs
+
+sweep-requires : tie.Need-sweep-requires
+sweep-requires c κs = (c .before .before .before .before .before .before .pre, none-latest)
+
+sub-held : tie.Need-sub-held
+sub-held c = search needs
+
+zero-after-requires : tie.Need-zero-after-requires
+zero-after-requires c κs = let d = c .before .before .before .before .before .before in omega (arith, d .sweep .ensures .few, d .before .before .before .before .before .before .before .pre .walks .few-rows)
+
+same-length : tie.Need-same-length
+same-length c = search needs
+
+returns : tie.Need-returns
+returns c =
+    let e = c .before .before in
+    let d = e .before .before .before .before .before .before .before in
+    let s = d .before .before .before .before .before .before .before in
+    let a = s .args in
+    holds-run (a .firsts .now) (a .nexts .now) (a .room .now) (a .ring) (a .c) (s .pre) (d .sweep .last .1 .1 .0) (d .sweep .last .1 .1 .1 .0) (d .sweep .last .1 .1 .1 .1 .1 .1 .0) (d .sweep .result) (d .sweep .ensures)
+    (d .sweep .kept .1 .1 .0) (e .zero-after .last .0) (e .zero-after .ensures)
+
+pub hold-run-spec : {M : Type 1} → statement M
+hold-run-spec =
+    tie.close
+    (tie.spec
+    slice-aggregate-sweep
+    slice-aggregate-sweep-2
+    sweep-requires
+    sub-held
+    zero-after-requires
+    same-length
+    returns)

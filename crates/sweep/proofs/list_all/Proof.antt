@@ -1,0 +1,65 @@
+-- `sweep::list_all` meets its contract: after the last row all is released, so that what is listed of the released is the whole listing. Assumes nothing.
+use mathlib.Core.Path.{_≡_, ap}
+use Prim.Native.Nat.{ℕ, _+_}
+use native.Mathlib.Omega.{arith}
+use lib.ListN.{length}
+use Rattle.sweep.proofs.Ending.{none-latest, last-safe, lists-all}
+use borrow.Author.Needs.{needs}
+use Rattle.sweep.proofs.list_all.Statement.{statement}
+use Rattle.sweep.proofs.list_all.Tie as tie
+
+slice-aggregate-sweep : tie.Need-slice-aggregate-sweep
+slice-aggregate-sweep c = search needs
+
+sweep-requires : tie.Need-sweep-requires
+sweep-requires c κs = (c .before .before .before .before .before .before .before .pre, none-latest)
+
+wide-requires : tie.Need-wide-requires
+wide-requires c κs = search needs
+
+add-last : tie.Need-add-last
+add-last c = omega (arith, c .wide .ensures .1, c .before .before .before .before .before .before .before .before .before .before .before .before .before .before .pre .walks .few-rows)
+
+add-last-2 : tie.Need-add-last-2
+add-last-2 c = omega (arith, c .wide .ensures .1, c .before .before .before .before .before .before .before .before .before .before .before .before .before .before .pre .walks .few-rows)
+
+slice-aggregate-release : tie.Need-slice-aggregate-release
+slice-aggregate-release c = search needs
+
+release-requires : tie.Need-release-requires
+release-requires c κs =
+    let d = c .before .before .before .before .before .before .before .before .before in
+    let s = d .before .before .before .before .before .before .before .before in
+    let a = s .args in
+    last-safe (a .firsts .now) (a .nexts .now) (a .room .now) (a .ring) (a .c) (s .pre) (d .sweep .last .1 .1 .0) (d .sweep .last .1 .1 .1 .0) (d .sweep .last .1 .1 .1 .1 .1 .1 .0) (d .sweep .result) (d .sweep .ensures) (d .sweep .kept .1 .1 .0)
+
+same-length : tie.Need-same-length
+same-length c = search needs
+
+same-length-2 : tie.Need-same-length-2
+same-length-2 c = search needs
+
+returns : tie.Need-returns
+returns c =
+    let e = c .before .before in
+    let w = e .before .before .before .before in
+    let d = w .before .before .before .before .before .before in
+    let s = d .before .before .before .before .before .before .before .before in
+    let a = s .args in
+    lists-all (a .firsts .now) (a .nexts .now) (a .room .now) (a .ring) (a .c) (s .pre) (d .sweep .last .1 .1 .0) (d .sweep .last .1 .1 .1 .0) (d .sweep .last .1 .1 .1 .1 .1 .1 .0) (d .sweep .result) (d .sweep .ensures)
+    (length (a .firsts .now) + w .wide .result + 1) (ap (λ (b : ℕ). length (a .firsts .now) + b + 1) (w .wide .ensures .0)) (e .release .last .1 .1 .1 .1 .1 .1 .1 .0) (e .release .result) (e .release .ensures)
+
+pub list-all-spec : {M : Type 1} → statement M
+list-all-spec =
+    tie.close
+    (tie.spec
+    slice-aggregate-sweep
+    sweep-requires
+    wide-requires
+    add-last
+    add-last-2
+    slice-aggregate-release
+    release-requires
+    same-length
+    same-length-2
+    returns)

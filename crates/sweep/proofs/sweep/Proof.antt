@@ -1,0 +1,129 @@
+-- `sweep::sweep` meets its contract: after k rows the state is that of k rows, whatever matches the slices describe. Assumes nothing.
+use mathlib.Core.Path.{_≡_, subst, subst⁻¹}
+use Prim.Native.Nat.{ℕ, _+_, _-_}
+use native.Mathlib.Omega.{arith}
+use lib.ListN.{length}
+use Rattle.rows.specs.Rows.{RowDone}
+use Rattle.sweep.specs.Sweeping.{laterFrom}
+use Rattle.sweep.proofs.Sweeping.{SweepInv, sweep-start, sweep-end, sweep-next, release-safe, row-safe}
+use borrow.Author.Needs.{needs}
+use Rattle.sweep.proofs.sweep.Statement.{statement}
+use Rattle.sweep.proofs.sweep.Tie as tie
+
+abbrev Inv-loop : tie.InvT-loop
+Inv-loop firsts nexts room₀ latest₀ ring c list₀ b tail₀ head₀ from₀ listed₀ k₀ room latest list tail head from listed k = SweepInv firsts nexts room₀ latest₀ list₀ ring c room latest list tail head from listed k
+
+abbrev μ-loop : tie.MeasureT-loop
+μ-loop firsts nexts room₀ latest₀ ring c list₀ b tail₀ head₀ from₀ listed₀ k₀ room latest list tail head from listed k = length firsts - k
+
+wide-requires : tie.Need-wide-requires Inv-loop μ-loop
+wide-requires c κs = search needs
+
+loop-holds : tie.Need-loop-holds Inv-loop μ-loop
+loop-holds c = let s = c .before .before .before .before .before .before in let a = s .args in sweep-start (a .firsts .now) (a .nexts .now) (a .room .now) (a .latest .now) (a .list .now) (a .ring) (a .c) (s .pre .0) (s .pre .1)
+
+mul-wide : tie.Need-mul-wide Inv-loop μ-loop
+mul-wide c = omega arith
+
+shared-slice-read-wide : tie.Need-shared-slice-read-wide Inv-loop μ-loop
+shared-slice-read-wide c = omega arith
+
+wide-requires-2 : tie.Need-wide-requires-2 Inv-loop μ-loop
+wide-requires-2 c κs = search needs
+
+add-k : tie.Need-add-k Inv-loop μ-loop
+add-k c =
+    let n = c .before .before in
+    let l = n .before in
+    let w = l .before in
+    let s = w .before .before .before .before .before .before in
+    let a = s .args in
+    let v = l .loop in
+    let z = n .loop-test .taken in omega (arith, s .pre .0 .walks .few-rows)
+
+release-requires : tie.Need-release-requires Inv-loop μ-loop
+release-requires c κs =
+    let n = c .before .before .before .before .before in
+    let l = n .before in
+    let w = l .before in
+    let s = w .before .before .before .before .before .before in
+    let a = s .args in
+    let v = l .loop in
+    release-safe (a .firsts .now) (a .nexts .now) (a .room .now) (a .latest .now) (a .list .now) (a .ring) (a .c) (s .pre .0) (s .pre .1) (v .room) (v .latest) (v .list) (v .tail) (v .head) (v .from) (v .listed) (v .k) (v .inv) (n .loop-test .taken)
+
+store-row-requires : tie.Need-store-row-requires Inv-loop μ-loop
+store-row-requires c κs =
+    let n = c .before .before .before .before .before .before .before .before .before .before in
+    let l = n .before in
+    let w = l .before in
+    let s = w .before .before .before .before .before .before in
+    let a = s .args in
+    let v = l .loop in
+    row-safe (a .firsts .now) (a .nexts .now) (a .room .now) (a .latest .now) (a .list .now) (a .ring) (a .c) (s .pre .0) (s .pre .1) (v .room) (v .latest) (v .list) (v .tail) (v .head) (v .from) (v .listed) (v .k) (v .inv) (n .loop-test .taken) (c .before .before .before .before .before .before .before .before .wide2 .result) (c .before .before .before .before .before .before .before .before .wide2 .ensures .0)
+
+later-from-requires : tie.Need-later-from-requires Inv-loop μ-loop
+later-from-requires c κs = search needs
+
+loop-less : tie.Need-loop-less Inv-loop μ-loop
+loop-less c =
+    let n = c .before .before .before .before .before .before .before .before .before .before .before .before .before .before .before .before in
+    let l = n .before in
+    let w = l .before in
+    let s = w .before .before .before .before .before .before in
+    let a = s .args in
+    let v = l .loop in
+    let z = n .loop-test .taken in omega arith
+
+loop-again : tie.Need-loop-again Inv-loop μ-loop
+loop-again c =
+    let n = c .before .before .before .before .before .before .before .before .before .before .before .before .before .before .before .before in
+    let l = n .before in
+    let w = l .before in
+    let s = w .before .before .before .before .before .before in
+    let a = s .args in
+    let v = l .loop in
+    let d = c .before .before .before .before .before .before .before .before .before .before in
+    let e = c .before .before .before .before .before in
+    subst⁻¹ (λ (f : ℕ). SweepInv (a .firsts .now) (a .nexts .now) (a .room .now) (a .latest .now) (a .list .now) (a .ring) (a .c) (e .store-row .last .1 .1 .0) (e .store-row .last .1 .1 .1 .0) (d .release .last .1 .1 .1 .1 .1 .1 .1 .0) (d .release .result .tail) (e .store-row .result) f (d .release .result .listed) (v .k + 1))
+    (c .later-from .ensures)
+    (sweep-next (a .firsts .now) (a .nexts .now) (a .room .now) (a .latest .now) (a .list .now) (a .ring) (a .c) (s .pre .0) (s .pre .1) (v .room) (v .latest) (v .list) (v .tail) (v .head) (v .from) (v .listed) (v .k) (v .inv) (n .loop-test .taken) (c .before .before .before .before .before .before .before .before .before .before .before .before .before .before .wide2 .result) (c .before .before .before .before .before .before .before .before .before .before .before .before .before .before .wide2 .ensures .0) (d .release .last .1 .1 .1 .1 .1 .1 .1 .0) (d .release .result) (d .release .ensures) (e .store-row .last .1 .1 .0) (e .store-row .last .1 .1 .1 .0) (e .store-row .result) (e .store-row .kept .1 .1 .0) (e .store-row .kept .1 .1 .1 .0)
+    (subst (λ (b : ℕ). RowDone b (v .k + 1) (v .room) (v .latest) (a .nexts .now) (a .ring) (d .release .result .tail) (v .head) (v .from) (c .before .before .before .before .before .before .before .before .before .before .before .before .before .before .wide2 .result) (e .store-row .last .1 .1 .0) (e .store-row .last .1 .1 .1 .0) (e .store-row .result)) (w .wide .ensures .0) (e .store-row .ensures)))
+
+same-length : tie.Need-same-length Inv-loop μ-loop
+same-length c = c .before .loop .inv .long
+
+same-length-2 : tie.Need-same-length-2 Inv-loop μ-loop
+same-length-2 c = c .before .loop .inv .wide
+
+same-length-3 : tie.Need-same-length-3 Inv-loop μ-loop
+same-length-3 c = c .before .loop .inv .size
+
+returns : tie.Need-returns Inv-loop μ-loop
+returns c =
+    let l = c .before in
+    let s = l .before .before .before .before .before .before .before in
+    let a = s .args in
+    let v = l .loop in
+    sweep-end (a .firsts .now) (a .nexts .now) (a .room .now) (a .latest .now) (a .list .now) (a .ring) (a .c) (s .pre .0) (s .pre .1) (v .room) (v .latest) (v .list) (v .tail) (v .head) (v .from) (v .listed) (v .k) (v .inv) (c .loop-test .left)
+
+pub sweep-spec : {M : Type 1} → statement M
+sweep-spec =
+    tie.close
+    (tie.spec
+    Inv-loop
+    μ-loop
+    wide-requires
+    loop-holds
+    mul-wide
+    shared-slice-read-wide
+    wide-requires-2
+    add-k
+    release-requires
+    store-row-requires
+    later-from-requires
+    loop-less
+    loop-again
+    same-length
+    same-length-2
+    same-length-3
+    returns)

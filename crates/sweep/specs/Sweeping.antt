@@ -1,0 +1,62 @@
+-- The whole sweep: what it asks, and what it leaves for every test of matches that the rows' columns describe. Assumes nothing.
+use mathlib.Core.Path.{_≡_}
+use mathlib.Core.Bool.{Bool, cond}
+use mathlib.Core.List.{List, []}
+use Prim.Native.Nat.{ℕ, _-_, _*_, _≤_}
+use lib.Dec.{eqb}
+use lib.ListN.{length, take}
+use Rattle.rules.specs.declared.Settings.{Settings}
+use Rattle.rules.specs.declared.Cell.{Cell}
+use Rattle.rules.specs.declared.Record.{Record}
+use Rattle.rules.specs.Lists.{keep, laid, thenZeros}
+use Rattle.rules.specs.Matches.{matchesTo}
+use Rattle.rules.specs.Records.{recordsFrom}
+use Rattle.rules.specs.Rooms.{recordNumbers, inRun, largestRun}
+use Rattle.rules.proofs.Sweeps.{sweptTo}
+use Rattle.matches.specs.Walks.{WalkSafe, Described}
+use Rattle.predecessors.specs.declared.Ring.{Ring}
+use Rattle.predecessors.specs.Numbers.{RingFits, slotOf}
+use Rattle.rows.specs.Machine.{Machine}
+use Rattle.listing.specs.Leaving.{ListedTo}
+use Rattle.sweep.specs.declared.Swept.{Swept}
+
+-- the number from which records are of the latest row, once a row has brought their number from head to h
+unfoldable pub laterFrom : ℕ → ℕ → ℕ → ℕ
+laterFrom h head from = cond (eqb h head) from head
+
+-- what the sweep asks to be safe
+pub record SweepSafe (firsts nexts room : List ℕ) (ring : Ring) (c : Settings) : Type 0 where
+  pub fits : RingFits ring
+  pub room-for : 8 * ring .size ≤ length room
+  pub walks : WalkSafe firsts nexts
+  pub wide : length nexts ≡ 16384
+  pub some-base : 1 ≤ c .k
+  pub few-bases : c .k ≤ 31
+
+-- a test of matches that firsts and nexts describe, for which the ring has room: at least W records
+pub record Describes (hit : Cell → Bool) (columns : ℕ) (firsts nexts : List ℕ) (b : ℕ) (ring : Ring) : Type 0 where
+  pub described : Described hit columns firsts nexts
+  pub enough : largestRun b (matchesTo hit columns (length firsts)) (length firsts) ≤ ring .size
+
+-- after the last row: all records, those of its run in the room, and of those released the listed ones in the list
+pub record SweepDone (firsts nexts : List ℕ) (ring : Ring) (c : Settings) (room′ latest′ list′ : List ℕ) (r : Swept) : Type 0 where
+  pub order : r .tail ≤ r .head
+  pub few : r .head ≤ length firsts * 16384
+  pub entries : r .listed ≤ r .tail
+  pub machine : (hit : Cell → Bool) (columns : ℕ) → Describes hit columns firsts nexts (c .b) ring
+      → Machine (c .b) (length firsts) (sweptTo (c .b) hit columns (length firsts) 0) room′ latest′ ring (r .tail)
+  pub counted : (hit : Cell → Bool) (columns : ℕ) → Describes hit columns firsts nexts (c .b) ring → length (sweptTo (c .b) hit columns (length firsts) 0) ≡ r .head
+  pub entered : (hit : Cell → Bool) (columns : ℕ) → Describes hit columns firsts nexts (c .b) ring
+      → ListedTo c (matchesTo hit columns (length firsts)) (take (r .tail) (sweptTo (c .b) hit columns (length firsts) 0)) list′ (r .listed)
+
+-- the whole listing: so many entries, at the front of the list room where it holds them all
+pub record ListsAll (firsts nexts : List ℕ) (ring : Ring) (c : Settings) (list′ : List ℕ) (n : ℕ) : Type 0 where
+  pub entered : (hit : Cell → Bool) (columns : ℕ) → Describes hit columns firsts nexts (c .b) ring
+      → ListedTo c (matchesTo hit columns (length firsts)) (recordsFrom (c .b) [] (matchesTo hit columns (length firsts))) list′ n
+
+-- the run of the last row: so many records, from the front of the room, and zeros after them, where the ring begins so that the run begins in slot 0
+pub record HoldsRun (firsts nexts : List ℕ) (ring : Ring) (c : Settings) (room room′ : List ℕ) (n : ℕ) : Type 0 where
+  pub held : (hit : Cell → Bool) (columns : ℕ) → Describes hit columns firsts nexts (c .b) ring
+      → slotOf ring (length (matchesTo hit columns (length firsts - c .b - 1))) ≡ 0
+      → (n ≡ length (keep (λ x. inRun (c .b) (length firsts) (x .cell)) (recordsFrom (c .b) [] (matchesTo hit columns (length firsts)))))
+      × (room′ ≡ thenZeros (laid recordNumbers (keep (λ x. inRun (c .b) (length firsts) (x .cell)) (recordsFrom (c .b) [] (matchesTo hit columns (length firsts))))) (length room))

@@ -1,0 +1,10 @@
+pub mod Walks
+pub mod RowSizes
+pub mod Counting
+pub mod MatchedRows
+pub mod Runs
+pub mod Pairs
+pub mod ColumnSums
+pub mod Releases
+pub mod Links
+pub mod Unique

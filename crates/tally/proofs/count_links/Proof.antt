@@ -1,0 +1,84 @@
+-- `tally::count_links` meets its contract: after p rows their matches are counted in their columns, but for the rows released, and their links are the total. Assumes nothing.
+use mathlib.Core.Path.{refl, subst}
+use Prim.Native.Nat.{ℕ, _-_}
+use native.Mathlib.Omega.{arith}
+use lib.ListN.{length}
+use Rattle.tally.specs.Columns.{RowAdded}
+use Rattle.tally.proofs.Links.{LinkLoop, link-start, link-next, link-end}
+use borrow.Author.Needs.{needs}
+use Rattle.tally.proofs.count_links.Statement.{statement}
+use Rattle.tally.proofs.count_links.Tie as tie
+
+abbrev Inv-loop : tie.InvT-loop
+Inv-loop firsts nexts b counts₀ links₀ p₀ counts links p = LinkLoop firsts nexts b counts links p
+
+abbrev μ-loop : tie.MeasureT-loop
+μ-loop firsts nexts b counts₀ links₀ p₀ counts links p = length firsts - p
+
+loop-holds : tie.Need-loop-holds Inv-loop μ-loop
+loop-holds c =
+    let a = c .before .before .args in
+    link-start (a .firsts .now) (a .nexts .now) (a .b) 16385 refl
+
+release-requires : tie.Need-release-requires Inv-loop μ-loop
+release-requires c κs = (c .before .before .before .before .before .pre, c .before .loop-test .taken)
+
+mul-wide : tie.Need-mul-wide Inv-loop μ-loop
+mul-wide c = omega arith
+
+shared-slice-read-wide : tie.Need-shared-slice-read-wide Inv-loop μ-loop
+shared-slice-read-wide c = omega arith
+
+wide-requires : tie.Need-wide-requires Inv-loop μ-loop
+wide-requires c κs = search needs
+
+add-row-requires : tie.Need-add-row-requires Inv-loop μ-loop
+add-row-requires c κs =
+    let w = c .before in
+    let safe = w .before .before .before .before .before .before .before .before .pre in
+    (safe .nexts-safe, rw (w .wide .ensures) (safe .starts _))
+
+add-p : tie.Need-add-p Inv-loop μ-loop
+add-p c = omega arith
+
+loop-less : tie.Need-loop-less Inv-loop μ-loop
+loop-less c = omega arith
+
+loop-again : tie.Need-loop-again Inv-loop μ-loop
+loop-again c =
+    let w = c .before .before in
+    let r = w .before .before in
+    let i = r .before .before in
+    let l = i .before in
+    let s = l .before .before .before in
+    let a = s .args in
+    let v = l .loop in
+    let freed = r .release .last .1 .1 .1 .1 .0 in
+    let new = c .add-row .last .1 .1 .1 .0 in
+    let row = subst (λ (n : ℕ). RowAdded (a .nexts .now) n (a .b) freed new (v .links) (c .add-row .result)) (w .wide .ensures) (c .add-row .ensures) in
+    link-next (a .firsts .now) (a .nexts .now) (a .b) (v .counts) (v .links) (v .p) (v .inv) (s .pre .few-rows) (i .loop-test .taken) freed new (c .add-row .result)
+    (r .release .ensures) row
+
+returns : tie.Need-returns Inv-loop μ-loop
+returns c =
+    let l = c .before in
+    let a = l .before .before .before .args in
+    let v = l .loop in
+    link-end (a .firsts .now) (a .nexts .now) (a .b) (v .counts) (v .links) (v .p) (v .inv) (c .loop-test .left)
+
+pub count-links-spec : {M : Type 1} → statement M
+count-links-spec =
+    tie.close
+    (tie.spec
+    Inv-loop
+    μ-loop
+    loop-holds
+    release-requires
+    mul-wide
+    shared-slice-read-wide
+    wide-requires
+    add-row-requires
+    add-p
+    loop-less
+    loop-again
+    returns)

@@ -1,0 +1,3 @@
+-- The rows that the tallies walk, and what the tallies are.
+pub mod Tallies
+pub mod Columns
