@@ -1,0 +1,20 @@
+-- Document 01, "Examples in the registry": P1 through `chain`, and with k 0. Assumes nothing.
+use mathlib.Core.Path.{_≡_, refl}
+use mathlib.Core.List.{List, [], _∷_, _++_}
+use Prim.Native.Nat.{ℕ}
+use Rattle.rules.specs.Lists.{text}
+use Rattle.exchange.specs.Whole.{outputOf}
+
+-- a quoted line with its line feed
+abbrev fed : List ℕ → List ℕ
+fed line = line ++ (10 ∷ [])
+
+pub P1-through-chain : outputOf (fed (text "010702000200080000EC") ++ fed (text "020312248045") ++ fed (text "030312448024") ++ fed (text "0400FC"))
+    ≡ fed (text "100A00010005000100050003D7") ++ fed (text "11140000000100000003000000020000000000000002D3")
+unfolding outputOf text
+P1-through-chain = refl
+
+pub k-0-through-chain : outputOf (fed (text "010700000200080000EE") ++ fed (text "020312248045") ++ fed (text "030312448024") ++ fed (text "0400FC"))
+    ≡ fed (text "1F06010000000000DA")
+unfolding outputOf text
+k-0-through-chain = refl

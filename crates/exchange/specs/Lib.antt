@@ -1,0 +1,3 @@
+-- The whole output of the program, in the words of document 01, "Frames".
+pub mod Whole
+pub mod Examples

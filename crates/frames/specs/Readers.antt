@@ -1,0 +1,61 @@
+-- Document 01, "Frames": "Kinds 10, 11 and 1F have a reader of one line, which must be the whole slice: 20, 21, 22, 23 (another kind), 25, in that
+-- order, with sequence, detail and values 0." Assumes nothing.
+use mathlib.Core.Bool.{cond}
+use mathlib.Core.List.{List}
+use Prim.Native.Nat.{ℕ}
+use lib.Dec.{eqb}
+use Rattle.rules.specs.declared.Settings.{Settings}
+use Rattle.lines.specs.Digits.{bytesIn}
+use Rattle.frames.specs.declared.Entry.{Entry}
+use Rattle.frames.specs.declared.Done.{Done}
+use Rattle.frames.specs.declared.Refused.{Refused}
+use Rattle.frames.specs.declared.EntryRead.{EntryRead}
+use Rattle.frames.specs.declared.DoneRead.{DoneRead}
+use Rattle.frames.specs.declared.RefusedRead.{RefusedRead}
+use Rattle.payloads.specs.Numbers.{numberAt}
+use Rattle.payloads.specs.Lines.{kindNumber}
+
+-- the values in a frame's bytes, where the payload stands from place 2 on
+unfoldable pub jobIn : List ℕ → Settings
+unfolding numberAt
+jobIn bytes = record { k = numberAt bytes 2 1; b = numberAt bytes 3 2; a = numberAt bytes 5 2; m = numberAt bytes 7 2 }
+
+unfoldable pub entryIn : List ℕ → Entry
+unfolding numberAt
+entryIn bytes =
+    record {
+      first = record { start = numberAt bytes 2 2; end = numberAt bytes 4 2 };
+      second = record { start = numberAt bytes 6 2; end = numberAt bytes 8 2 };
+      weight = numberAt bytes 10 2;
+    }
+
+unfoldable pub doneIn : List ℕ → Done
+unfolding numberAt
+doneIn bytes =
+    record { listed = numberAt bytes 2 4; matches = numberAt bytes 6 4; widest = numberAt bytes 10 4; links = numberAt bytes 14 8 }
+
+unfoldable pub refusedIn : List ℕ → Refused
+unfolding numberAt
+refusedIn bytes = record { number = numberAt bytes 2 1; sequence = numberAt bytes 3 1; detail = numberAt bytes 4 4 }
+
+-- all values 0
+unfoldable pub noEntry : Entry
+noEntry = record { first = record { start = 0; end = 0 }; second = record { start = 0; end = 0 }; weight = 0 }
+
+unfoldable pub noDone : Done
+noDone = record { listed = 0; matches = 0; widest = 0; links = 0 }
+
+unfoldable pub noRefused : Refused
+noRefused = record { number = 0; sequence = 0; detail = 0 }
+
+unfoldable pub readEntry : List ℕ → EntryRead
+unfolding kindNumber bytesIn entryIn noEntry
+readEntry line = let n = kindNumber 16 10 line in record { number = n; entry = cond (eqb n 0) (entryIn (bytesIn line)) noEntry }
+
+unfoldable pub readDone : List ℕ → DoneRead
+unfolding kindNumber bytesIn doneIn noDone
+readDone line = let n = kindNumber 17 20 line in record { number = n; done = cond (eqb n 0) (doneIn (bytesIn line)) noDone }
+
+unfoldable pub readRefused : List ℕ → RefusedRead
+unfolding kindNumber bytesIn refusedIn noRefused
+readRefused line = let n = kindNumber 31 6 line in record { number = n; refused = cond (eqb n 0) (refusedIn (bytesIn line)) noRefused }

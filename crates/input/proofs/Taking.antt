@@ -1,0 +1,244 @@
+-- One line taken, by its kind: where it is wrong all stays as it was, and else the state and the letters hold what the grammar says. Assumes nothing.
+use mathlib.Core.Path.{_≡_, refl, sym, ap, subst⁻¹, _∙_}
+use mathlib.Core.Bool.{Bool, true, false}
+use mathlib.Core.List.{List, _++_}
+use Prim.Native.Nat.{ℕ, _+_, _<_, _≤_}
+use native.Mathlib.Omega.{arith}
+use lib.Dec.{eqb, leb}
+use lib.ListN.{length, getD, take, drop, length-append, length-drop, length-map}
+use lib.Seq.{sets, sets-eq, length-take-le, take-at, drop-at, take-append-le, drop-append-le}
+use borrow.Author.Tests.{ne-eqb, eqb-true, eqb-false, leb-true}
+use Rattle.rules.specs.Letters.{letterOf}
+use Rattle.lines.specs.Digits.{bytesIn}
+use Rattle.lines.specs.Reading.{frameIn, bytesLeft}
+use Rattle.lines.proofs.Storing.{sets-front}
+use Rattle.lines.proofs.Decoding.{byte-at}
+use Rattle.lines.proofs.Frames.{count-most, FrameRead, frame-read}
+use Rattle.payloads.specs.Pieces.{codesIn}
+use Rattle.frames.specs.Readers.{jobIn}
+use Rattle.payloads.proofs.Numbers.{number-same}
+use Rattle.input.specs.declared.State.{State}
+use Rattle.input.specs.declared.Taken.{Taken}
+use Rattle.input.specs.Grammar.{Progress, isPiece, frameNumber, payloadIn, sizeNumber, pieceNumber, payloadNumber, lineNumber, lettersIn, after}
+use Rattle.input.specs.States.{pieceTaken, pieceLeft, numbered, jobState, firstState, secondState, endState, progressOf, StateSafe, LineTaken}
+use Rattle.input.proofs.Numbering.{is-frame}
+
+-- ---- the payload, as the frame says its size
+
+pub frame-size : (line : List ℕ) → FrameRead line → frameIn line .size + 3 ≡ length (bytesIn line)
+frame-size line f = omega (arith, f .size, f .long)
+
+pub payload-size : (line : List ℕ) → FrameRead line → length (payloadIn line) ≡ frameIn line .size
+unfolding payloadIn
+payload-size line f = length-take-le (frameIn line .size) (drop 2 (bytesIn line)) (omega (arith, length-drop 2 (bytesIn line), frame-size line f))
+
+-- ---- the letters of a piece
+
+-- a piece has gone behind the letters there were, or they are as they were
+data Landed (payload letters left : List ℕ) (count : ℕ) (t : Taken) : Type 0 where
+  lands : pieceNumber payload count ≡ 0 → t .number ≡ 0 → t .count ≤ 16384 → count ≤ t .count → take (t .count) left ≡ take count letters ++ lettersIn payload
+      → drop (t .count) left ≡ drop (t .count) letters → Landed payload letters left count t
+  rests : pieceNumber payload count ≡ t .number → (t .number ≡ 0 → ⊥) → left ≡ letters → Landed payload letters left count t
+
+pub few-letters : (payload : List ℕ) (count : ℕ) → pieceNumber payload count ≡ 0 → count + length (codesIn payload) ≤ 16384
+unfolding pieceNumber
+few-letters payload count z = go (isPiece payload) (leb (count + length (codesIn payload)) 16384) refl refl
+  where
+    go : (a b : Bool) → isPiece payload ≡ a → leb (count + length (codesIn payload)) 16384 ≡ b → count + length (codesIn payload) ≤ 16384
+    go false b p q = let n = rw p at z in absurd (omega arith)
+    go true false p q = let n = rw (p, q) at z in absurd (omega arith)
+    go true true p q = leb-true (count + length (codesIn payload)) 16384 q
+
+module _ (payload letters left : List ℕ) (count : ℕ) (t : Taken) (room : 16384 ≤ length letters) (is : t ≡ pieceTaken payload count)
+    (goes : left ≡ pieceLeft payload count letters) where
+  taken-number : t .number ≡ pieceNumber payload count
+  unfolding pieceTaken
+  taken-number = ap (λ (x : Taken). x .number) is
+
+  landed : Landed payload letters left count t
+  unfolding pieceTaken pieceLeft lettersIn
+  landed = go (eqb (pieceNumber payload count) 0) refl
+    where
+      go : (b : Bool) → eqb (pieceNumber payload count) 0 ≡ b → Landed payload letters left count t
+      go false e = rests (sym taken-number) (λ z. eqb-false (pieceNumber payload count) 0 e (sym taken-number ∙ z)) (rw e at goes)
+      go true e =
+          let z = eqb-true (pieceNumber payload count) 0 e in
+          let ls = lettersIn payload in
+          let m : length ls ≡ length (codesIn payload) = length-map (codesIn payload) letterOf in
+          let n : t .count ≡ count + length (codesIn payload) = ap (λ (x : Taken). x .count) is ∙ rw e in
+          let f = few-letters payload count z in
+          let s : left ≡ take count letters ++ ls ++ drop (count + length ls) letters = rw e at goes ∙ sets-eq ls letters count (omega arith) in
+          let l : length (take count letters ++ ls) ≡ t .count = omega (arith, length-append (take count letters) ls, length-take-le count letters (omega arith)) in
+          let k : count + length ls ≡ t .count = omega arith in
+          lands z (taken-number ∙ z) (omega arith) (omega arith) (rw s (take-at (take count letters ++ ls) (drop (count + length ls) letters) (t .count) l))
+          (rw s (drop-at (take count letters ++ ls) (drop (count + length ls) letters) (t .count) l) ∙ ap (λ (i : ℕ). drop i letters) k)
+
+-- ---- the line
+
+module _ (line : List ℕ) (s : State) (first second : List ℕ) (safe : StateSafe s first second) where
+  abbrev here : Progress
+  here = progressOf s first second
+
+  stays : (m : ℕ) (r : State) → lineNumber here line ≡ m → (m ≡ 0 → ⊥) → r ≡ numbered s m → LineTaken line s first second r first second
+  unfolding numbered progressOf
+  stays m r h n e =
+      subst⁻¹ (λ (t : State). LineTaken line s first second t first second) e
+      record {
+        number = sym h;
+        progress = rw (h, ne-eqb m 0 n);
+        first-most = safe .first-most;
+        second-most = safe .second-most;
+        first-grows = omega arith;
+        second-grows = omega arith;
+        first-rest = refl;
+        second-rest = refl;
+      }
+
+  -- 20 to 24
+  pub line-refused : (n : ℕ) (r : State) → n ≡ frameNumber (s .turn) (frameIn line) → (n ≡ 0 → ⊥) → r ≡ numbered s n → LineTaken line s first second r first second
+  unfolding lineNumber progressOf
+  line-refused n r e h q = stays n r (rw (← e) (rw (ne-eqb n 0 h))) h q
+
+  module _ (z : frameNumber (s .turn) (frameIn line) ≡ 0) where
+    pub found : FrameRead line
+    found = frame-read line (is-frame (s .turn) (frameIn line) z)
+
+    number-by : lineNumber here line ≡ payloadNumber here (frameIn line .kind) (payloadIn line)
+    unfolding lineNumber progressOf
+    number-by = rw z
+
+    pub size-is : frameIn line .size + 3 ≡ length (bytesIn line)
+    size-is = frame-size line found
+
+    module _ (old bytes : List ℕ) (room : 67 ≤ length old) (left : bytes ≡ bytesLeft line old) where
+      in-place : bytes ≡ bytesIn line ++ drop (length (bytesIn line)) old
+      unfolding bytesLeft
+      in-place = left ∙ rw (found .ok) (sets-front old (bytesIn line) (omega (arith, count-most line (found .ok))))
+
+      pub payload-is : take (frameIn line .size) (drop 2 bytes) ≡ payloadIn line
+      unfolding payloadIn
+      payload-is =
+          let n = size-is in
+          let d : drop 2 (bytesIn line ++ drop (length (bytesIn line)) old) ≡ drop 2 (bytesIn line) ++ drop (length (bytesIn line)) old =
+          drop-append-le 2 (bytesIn line) (drop (length (bytesIn line)) old) (omega arith) in
+          rw (in-place, d) (take-append-le (frameIn line .size) (drop 2 (bytesIn line)) (drop (length (bytesIn line)) old) (omega (arith, length-drop 2 (bytesIn line))))
+
+      job-is : frameIn line .size ≡ 7 → jobIn bytes ≡ jobIn (bytesIn line)
+      unfolding jobIn bytesLeft
+      job-is e =
+          let n = size-is in
+          let b : bytes ≡ sets old 0 (bytesIn line) = left ∙ rw (found .ok) in
+          let same : (i : ℕ) → i < 10 → getD bytes i 0 ≡ getD (bytesIn line) i 0 = λ i l. rw b (byte-at line old i (omega arith) (omega (arith, count-most line (found .ok)))) in
+          rw (
+            number-same bytes (bytesIn line) 2 1 (λ i l. same i (omega arith)),
+            number-same bytes (bytesIn line) 3 2 (λ i l. same i (omega arith)),
+            number-same bytes (bytesIn line) 5 2 (λ i l. same i (omega arith)),
+            number-same bytes (bytesIn line) 7 2 (λ i l. same i (omega arith)),
+          )
+
+      pub job-taken : (size : ℕ) (r : State) → frameIn line .kind ≡ 1 → size ≡ frameIn line .size → r ≡ jobState s bytes size → LineTaken line s first second r first second
+      unfolding payloadNumber sizeNumber jobState after progressOf
+      job-taken size r k n q = go (eqb size 7) refl
+        where
+          by : lineNumber here line ≡ sizeNumber 7 size
+          by = number-by ∙ rw (k, payload-size line found, n)
+
+          go : (t : Bool) → eqb size 7 ≡ t → LineTaken line s first second r first second
+          go false e = stays 25 r (by ∙ rw e) (λ w. omega arith) (rw e at q)
+          go true e =
+              let m : lineNumber here line ≡ 0 = by ∙ rw e in
+              subst⁻¹ (λ (t : State). LineTaken line s first second t first second) (rw e at q)
+              record {
+                number = sym m;
+                progress = rw (m, k, job-is (sym n ∙ eqb-true size 7 e));
+                first-most = safe .first-most;
+                second-most = safe .second-most;
+                first-grows = omega arith;
+                second-grows = omega arith;
+                first-rest = refl;
+                second-rest = refl;
+              }
+
+    pub end-taken : (size : ℕ) (r : State) → (frameIn line .kind ≡ 1 → ⊥) → (frameIn line .kind ≡ 2 → ⊥) → (frameIn line .kind ≡ 3 → ⊥) → size ≡ frameIn line .size
+        → r ≡ endState s size → LineTaken line s first second r first second
+    unfolding payloadNumber sizeNumber endState after progressOf
+    end-taken size r k1 k2 k3 n q = go (eqb size 0) refl
+      where
+        by : lineNumber here line ≡ sizeNumber 0 size
+        by = number-by ∙ rw (ne-eqb (frameIn line .kind) 1 k1, ne-eqb (frameIn line .kind) 2 k2, ne-eqb (frameIn line .kind) 3 k3, payload-size line found, n)
+
+        go : (t : Bool) → eqb size 0 ≡ t → LineTaken line s first second r first second
+        go false e = stays 25 r (by ∙ rw e) (λ w. omega arith) (rw e at q)
+        go true e =
+            let m : lineNumber here line ≡ 0 = by ∙ rw e in
+            subst⁻¹ (λ (t : State). LineTaken line s first second t first second) (rw e at q)
+            record {
+              number = sym m;
+              progress = rw (m, ne-eqb (frameIn line .kind) 1 k1, ne-eqb (frameIn line .kind) 2 k2, ne-eqb (frameIn line .kind) 3 k3);
+              first-most = safe .first-most;
+              second-most = safe .second-most;
+              first-grows = omega arith;
+              second-grows = omega arith;
+              first-rest = refl;
+              second-rest = refl;
+            }
+
+    pub first-taken : (payload more : List ℕ) (t : Taken) (r : State) → frameIn line .kind ≡ 2 → payload ≡ payloadIn line → t ≡ pieceTaken payload (s .first)
+        → more ≡ pieceLeft payload (s .first) first → r ≡ firstState s t → LineTaken line s first second r more second
+    unfolding payloadNumber firstState after progressOf
+    first-taken payload more t r k e it im q = go (landed payload first more (s .first) t (safe .first-room) it im)
+      where
+        held : length (take (s .first) first) ≡ s .first
+        held = length-take-le (s .first) first (omega (arith, safe .first-most, safe .first-room))
+
+        by : lineNumber here line ≡ pieceNumber payload (s .first)
+        by = number-by ∙ rw (k, held, e)
+
+        go : Landed payload first more (s .first) t → LineTaken line s first second r more second
+        go (rests p n l) =
+            let m : r ≡ numbered s (t .number) = q ∙ rw (ne-eqb (t .number) 0 n) in
+            subst⁻¹ (λ (x : List ℕ). LineTaken line s first second r x second) l (stays (t .number) r (by ∙ p) n m)
+        go (lands p n f g tk dr) =
+            let m : lineNumber here line ≡ 0 = by ∙ p in
+            let u : r ≡ record { number = 0; turn = 1; settings = s .settings; first = t .count; second = s .second } = q ∙ rw n in
+            subst⁻¹ (λ (x : State). LineTaken line s first second x more second) u
+            record {
+              number = sym m;
+              progress = rw (m, k, tk, e);
+              first-most = f;
+              second-most = safe .second-most;
+              first-grows = g;
+              second-grows = omega arith;
+              first-rest = dr;
+              second-rest = refl;
+            }
+
+    pub second-taken : (payload more : List ℕ) (t : Taken) (r : State) → frameIn line .kind ≡ 3 → payload ≡ payloadIn line → t ≡ pieceTaken payload (s .second)
+        → more ≡ pieceLeft payload (s .second) second → r ≡ secondState s t → LineTaken line s first second r first more
+    unfolding payloadNumber secondState after progressOf
+    second-taken payload more t r k e it im q = go (landed payload second more (s .second) t (safe .second-room) it im)
+      where
+        held : length (take (s .second) second) ≡ s .second
+        held = length-take-le (s .second) second (omega (arith, safe .second-most, safe .second-room))
+
+        by : lineNumber here line ≡ pieceNumber payload (s .second)
+        by = number-by ∙ rw (k, held, e)
+
+        go : Landed payload second more (s .second) t → LineTaken line s first second r first more
+        go (rests p n l) =
+            let m : r ≡ numbered s (t .number) = q ∙ rw (ne-eqb (t .number) 0 n) in
+            subst⁻¹ (λ (x : List ℕ). LineTaken line s first second r first x) l (stays (t .number) r (by ∙ p) n m)
+        go (lands p n f g tk dr) =
+            let m : lineNumber here line ≡ 0 = by ∙ p in
+            let u : r ≡ record { number = 0; turn = 2; settings = s .settings; first = s .first; second = t .count } = q ∙ rw n in
+            subst⁻¹ (λ (x : State). LineTaken line s first second x first more) u
+            record {
+              number = sym m;
+              progress = rw (m, k, tk, e);
+              first-most = safe .first-most;
+              second-most = f;
+              first-grows = omega arith;
+              second-grows = g;
+              first-rest = refl;
+              second-rest = dr;
+            }

@@ -1,0 +1,76 @@
+-- Document 01, "Examples in the registry": the input of P1, and what the readings of its refusals come to on it. Assumes nothing.
+use mathlib.Core.Path.{_≡_, refl}
+use mathlib.Core.List.{List, [], _∷_, _++_}
+use Prim.Native.Nat.{ℕ}
+use Rattle.rules.specs.Lists.{text, laid}
+use Rattle.input.specs.Grammar.{refusedInput, inputOf}
+
+-- lines, each with its line feed
+abbrev pub fed : List (List ℕ) → List ℕ
+unfolding laid
+fed lines = laid (λ (l : List ℕ). l ++ (10 ∷ [])) lines
+
+abbrev pub job : List ℕ
+unfolding text
+job = text "010702000200080000EC"
+
+abbrev pub first : List ℕ
+unfolding text
+first = text "020312248045"
+
+abbrev pub second : List ℕ
+unfolding text
+second = text "030312448024"
+
+abbrev pub end : List ℕ
+unfolding text
+end = text "0400FC"
+
+pub P1 : inputOf (fed (job ∷ first ∷ second ∷ end ∷ []))
+    ≡ record {
+      answer = record { number = 0; line = 0; settings = record { k = 2; b = 2; a = 8; m = 0 }; first = 5; second = 5 };
+      first = text "ACCGT";
+      second = text "ACGGT";
+    }
+unfolding inputOf text laid
+P1 = refl
+
+-- 24: no bytes at all, no end, and a frame after the end
+pub nothing : inputOf [] .answer ≡ refusedInput 24 1
+unfolding inputOf
+nothing = refl
+
+pub no-end : inputOf (fed (job ∷ first ∷ second ∷ [])) .answer ≡ refusedInput 24 4
+unfolding inputOf text laid
+no-end = refl
+
+pub two-ends : inputOf (fed (job ∷ end ∷ end ∷ [])) .answer ≡ refusedInput 24 3
+unfolding inputOf text laid
+two-ends = refl
+
+-- 24: the second sequence before the first
+pub out-of-turn : inputOf (fed (job ∷ second ∷ first ∷ end ∷ [])) .answer ≡ refusedInput 24 3
+unfolding inputOf text laid
+out-of-turn = refl
+
+-- 20 comes before 24: text after the end, a last line without its line feed, lower case
+pub text-after : inputOf (fed (job ∷ end ∷ text "end" ∷ [])) .answer ≡ refusedInput 20 3
+unfolding inputOf text laid
+text-after = refl
+
+pub no-feed : inputOf (fed (job ∷ first ∷ second ∷ []) ++ end) .answer ≡ refusedInput 20 4
+unfolding inputOf text laid
+no-feed = refl
+
+pub lower-case : inputOf (fed (text "0400fc" ∷ [])) .answer ≡ refusedInput 20 1
+unfolding inputOf text laid
+lower-case = refl
+
+-- 25: a 0 code before the last half, and an odd last half in the middle of a sequence is no such code
+pub zero-code : inputOf (fed (job ∷ text "02021001EB" ∷ end ∷ [])) .answer ≡ refusedInput 25 2
+unfolding inputOf text laid
+zero-code = refl
+
+pub odd-pieces : inputOf (fed (job ∷ text "020110ED" ∷ text "020120DD" ∷ end ∷ [])) .first ≡ text "AC"
+unfolding inputOf text laid
+odd-pieces = refl

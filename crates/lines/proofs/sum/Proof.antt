@@ -1,0 +1,48 @@
+-- What is summed and what is ahead make the sum of all. Assumes nothing.
+use Prim.Native.Nat.{_-_}
+use lib.ListN.{length}
+use Rattle.lines.proofs.Sums.{Summing, summing-start, summing-next, summing-end}
+use borrow.Author.Needs.{needs}
+use Rattle.lines.proofs.sum.Statement.{statement}
+use Rattle.lines.proofs.sum.Tie as tie
+
+abbrev Inv-loop : tie.InvT-loop
+Inv-loop bytes acc₀ i₀ acc i = Summing bytes acc i
+
+abbrev μ-loop : tie.MeasureT-loop
+μ-loop bytes acc₀ i₀ acc i = length bytes - i
+
+loop-holds : tie.Need-loop-holds Inv-loop μ-loop
+loop-holds c = summing-start _
+
+shared-slice-read-wrapping-add-u8 : tie.Need-shared-slice-read-wrapping-add-u8 Inv-loop μ-loop
+shared-slice-read-wrapping-add-u8 c = search needs
+
+wrapping-add-u8-requires : tie.Need-wrapping-add-u8-requires Inv-loop μ-loop
+wrapping-add-u8-requires c κs = search needs
+
+add-i : tie.Need-add-i Inv-loop μ-loop
+add-i c = search needs
+
+loop-less : tie.Need-loop-less Inv-loop μ-loop
+loop-less c = search needs
+
+loop-again : tie.Need-loop-again Inv-loop μ-loop
+loop-again c = let l = c .before .before .before in summing-next _ _ _ _ (c .before .before .loop-test .taken) (c .wrapping-add-u8 .ensures) (l .loop .inv)
+
+returns : tie.Need-returns Inv-loop μ-loop
+returns c = summing-end _ _ _ (c .loop-test .left) (c .before .loop .inv)
+
+pub sum-spec : {M : Type 1} → statement M
+sum-spec =
+    tie.close
+    (tie.spec
+    Inv-loop
+    μ-loop
+    loop-holds
+    shared-slice-read-wrapping-add-u8
+    wrapping-add-u8-requires
+    add-i
+    loop-less
+    loop-again
+    returns)

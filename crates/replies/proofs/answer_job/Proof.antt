@@ -1,0 +1,79 @@
+-- `replies::answer_job` meets its contract: one refused frame, or the entries and one done frame. Assumes nothing.
+use mathlib.Core.Path.{_≡_, ap, _∙_}
+use mathlib.Core.List.{List}
+use Prim.Native.Nat.{ℕ}
+use lib.ListN.{length}
+use Rattle.replies.specs.Output.{inFront, refusedOf}
+use Rattle.replies.proofs.Answering.{refused-output, refused-fits, listing-output, listing-safe}
+use borrow.Author.Needs.{needs}
+use Rattle.replies.proofs.answer_job.Statement.{statement}
+use Rattle.replies.proofs.answer_job.Tie as tie
+
+-- the lines that were written are the output
+as-output : (lines output old left : List ℕ) (n : ℕ) → lines ≡ output → n ≡ length lines → left ≡ inFront lines old → (n ≡ length output) × (left ≡ inFront output old)
+as-output lines output old left n e a b = (a ∙ ap length e, b ∙ ap (λ (l : List ℕ). inFront l old) e)
+
+slice-aggregate-compare : tie.Need-slice-aggregate-compare
+slice-aggregate-compare c = search needs
+
+slice-aggregate-compare-2 : tie.Need-slice-aggregate-compare-2
+slice-aggregate-compare-2 c = search needs
+
+compare-requires : tie.Need-compare-requires
+compare-requires c κs = search needs
+
+put-refused-requires : tie.Need-put-refused-requires
+unfolding refusedOf
+put-refused-requires c κs =
+    let x = c .before .before .before .before .before .compare in
+    let s = c .before .before .before .before .before .before .before .before .before .before .before in
+    let a = s .args in
+    (refused-fits (a .c) (a .first .now) (a .second .now) (x .result) (x .ensures .0) (c .before .if1 .taken), s .pre)
+
+same-length : tie.Need-same-length
+same-length c = search needs
+
+returns : tie.Need-returns
+unfolding refusedOf
+returns c =
+    let r = c .before .before .put-refused in
+    let x = c .before .before .before .before .before .before .before .before .compare in
+    let s = c .before .before .before .before .before .before .before .before .before .before .before .before .before .before in
+    let a = s .args in
+    as-output _ _ _ _ _ (refused-output (a .c) (a .first .now) (a .second .now) (x .result) (x .ensures .0) (c .before .before .before .before .if1 .taken)) (r .ensures .0) (r .ensures .1)
+
+slice-aggregate-put-listing : tie.Need-slice-aggregate-put-listing
+slice-aggregate-put-listing c = search needs
+
+put-listing-requires : tie.Need-put-listing-requires
+put-listing-requires c κs =
+    let x = c .before .before .before .before .before .before .compare in
+    let s = c .before .before .before .before .before .before .before .before .before .before .before .before in
+    let a = s .args in
+    listing-safe (a .c) (a .first .now) (a .second .now) (x .result) (x .last .1 .1 .1 .1 .0) (x .ensures .0) (x .ensures .1 .1) (c .before .before .if1 .left) _ (s .pre)
+
+same-length-2 : tie.Need-same-length-2
+same-length-2 c = search needs
+
+returns-2 : tie.Need-returns-2
+returns-2 c =
+    let r = c .before .before .put-listing in
+    let x = c .before .before .before .before .before .before .before .before .before .compare in
+    let s = c .before .before .before .before .before .before .before .before .before .before .before .before .before .before .before in
+    let a = s .args in
+    as-output _ _ _ _ _ (listing-output (a .c) (a .first .now) (a .second .now) (x .result) (x .last .1 .1 .1 .1 .0) (x .ensures .0) (x .ensures .1 .1) (c .before .before .before .before .before .if1 .left)) (r .ensures .0) (r .ensures .1)
+
+pub answer-job-spec : {M : Type 1} → statement M
+answer-job-spec =
+    tie.close
+    (tie.spec
+    slice-aggregate-compare
+    slice-aggregate-compare-2
+    compare-requires
+    put-refused-requires
+    same-length
+    returns
+    slice-aggregate-put-listing
+    put-listing-requires
+    same-length-2
+    returns-2)

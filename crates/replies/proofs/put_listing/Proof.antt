@@ -1,0 +1,67 @@
+-- `replies::put_listing` meets its contract: the done frame goes behind the entries. Assumes nothing.
+use native.Mathlib.Omega.{arith}
+use Rattle.replies.specs.Output.{doneOf}
+use Rattle.replies.proofs.Answering.{entries-asked, done-inside, done-fits-word, listing-written}
+use borrow.Author.Needs.{needs}
+use Rattle.replies.proofs.put_listing.Statement.{statement}
+use Rattle.replies.proofs.put_listing.Tie as tie
+
+size-requires : tie.Need-size-requires
+size-requires c κs = search needs
+
+put-entries-requires : tie.Need-put-entries-requires
+put-entries-requires c κs = entries-asked _ _ _ _ (c .before .before .before .before .pre) (c .before .size .ensures)
+
+sub-write-done : tie.Need-sub-write-done
+sub-write-done c =
+    let e = c .before .before .put-entries in
+    let z = c .before .before .before .before .size in
+    let s = c .before .before .before .before .before .before .before in
+    let a = s .args in
+    done-inside (a .list .now) (a .output .now) (e .last .1 .1 .0) (a .x) (z .result) (e .result) (s .pre) (z .ensures) (e .ensures .0) (e .ensures .1)
+
+part-write-done-start : tie.Need-part-write-done-start
+part-write-done-start c = search needs
+
+part-write-done-end : tie.Need-part-write-done-end
+part-write-done-end c = search needs
+
+write-done-requires : tie.Need-write-done-requires
+write-done-requires c κs = search needs
+
+add-result : tie.Need-add-result
+unfolding doneOf
+add-result c =
+    let w = c .before .before .before .write-done in
+    let e = c .before .before .before .before .before .before .before .put-entries in
+    let z = c .before .before .before .before .before .before .before .before .before .size in
+    let s = c .before .before .before .before .before .before .before .before .before .before .before .before in
+    let a = s .args in
+    omega (arith, done-fits-word (a .list .now) (a .output .now) (e .last .1 .1 .0) (a .x) (z .result) (e .result) (s .pre) (z .ensures) (e .ensures .0) (e .ensures .1) (w .last .1 .0) (w .result) (w .ensures .0) (w .ensures .1))
+
+same-length : tie.Need-same-length
+same-length c = search needs
+
+returns : tie.Need-returns
+unfolding doneOf
+returns c =
+    let w = c .before .before .before .write-done in
+    let e = c .before .before .before .before .before .before .before .put-entries in
+    let z = c .before .before .before .before .before .before .before .before .before .size in
+    let s = c .before .before .before .before .before .before .before .before .before .before .before .before in
+    let a = s .args in
+    listing-written (a .list .now) (a .output .now) (e .last .1 .1 .0) (a .x) (z .result) (e .result) (s .pre) (z .ensures) (e .ensures .0) (e .ensures .1) (w .last .1 .0) (w .result) (w .ensures .0) (w .ensures .1)
+
+pub put-listing-spec : {M : Type 1} → statement M
+put-listing-spec =
+    tie.close
+    (tie.spec
+    size-requires
+    put-entries-requires
+    sub-write-done
+    part-write-done-start
+    part-write-done-end
+    write-done-requires
+    add-result
+    same-length
+    returns)

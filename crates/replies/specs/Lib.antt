@@ -1,0 +1,3 @@
+-- The whole output of a job, in the words of document 01, "Frames".
+pub mod Output
+pub mod Entries
