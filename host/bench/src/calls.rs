@@ -1,0 +1,180 @@
+//! The call `compare` itself, against the reference's.
+
+use crate::jobs::{Job, KINDS};
+use crate::table::{self, bytes, count, duration, three_digits, times};
+use crate::timing::{medians_in_turn, ratio};
+use hornbeamlet::{Answer, Library, Settings, ENTRY, RECORD};
+use std::time::Duration;
+
+/// The reference is left out where it would take longer than this.
+const PATIENCE: Duration = Duration::from_secs(10);
+
+const HEADINGS: [&str; 10] = [
+    "pair",
+    "compare",
+    "ns a letter",
+    "ns a match",
+    "need",
+    "reference",
+    "matches",
+    "links",
+    "work room",
+    "list room",
+];
+
+/// A job that was measured.
+pub struct Call {
+    /// The job.
+    pub job: Job,
+    /// The time of the library's `compare`.
+    pub time: Duration,
+    /// The time of its `need`.
+    need: Duration,
+    /// The time of the reference's `compare`, where it is not too long.
+    reference: Option<Duration>,
+    answer: Answer,
+    /// The bytes of work room and list room.
+    rooms: [usize; 2],
+}
+
+/// What is asked in a task, and of which job.
+#[derive(Clone, Copy, PartialEq)]
+enum Task {
+    Compare(usize),
+    Need(usize),
+    Reference(usize),
+}
+
+/// Measures all jobs with just the rooms that each needs, the library and the
+/// reference in turn.
+pub fn measure(library: &Library, jobs: Vec<Job>) -> Vec<Call> {
+    let mut lent: Vec<Lent> = jobs.iter().map(|job| Lent::new(library, job)).collect();
+    let tasks = tasks(&jobs, &lent);
+    let medians = medians_in_turn(&tasks, |task| match *task {
+        Task::Compare(at) => lent[at].run(&jobs[at], |job, work, list| {
+            library.compare(job.settings, &job.first, &job.second, work, list)
+        }),
+        Task::Need(at) => {
+            let job = &jobs[at];
+            let records = library.need(job.settings, &job.first, &job.second);
+            assert_eq!(records, lent[at].answer.widest, "{}: two needs", job.name);
+        }
+        Task::Reference(at) => lent[at].run(&jobs[at], by_reference),
+    });
+    let median = |task| {
+        let at = tasks.iter().position(|&it| it == task);
+        at.map(|at| medians[at])
+    };
+    let call = |(at, (job, lent)): (usize, (Job, Lent))| Call {
+        job,
+        time: median(Task::Compare(at)).unwrap_or_default(),
+        need: median(Task::Need(at)).unwrap_or_default(),
+        reference: median(Task::Reference(at)),
+        answer: lent.answer,
+        rooms: [4 * lent.work.len(), 4 * lent.list.len()],
+    };
+    jobs.into_iter().zip(lent).enumerate().map(call).collect()
+}
+
+/// The order of a round. The library's shortest jobs come last, so that they
+/// find its code in the cache and not the reference's.
+fn tasks(jobs: &[Job], lent: &[Lent]) -> Vec<Task> {
+    let patient = |&at: &usize| expected_time(&jobs[at], lent[at].answer) <= PATIENCE;
+    let references = (0..jobs.len()).filter(patient).map(Task::Reference);
+    let library = (0..jobs.len())
+        .rev()
+        .flat_map(|at| [Task::Need(at), Task::Compare(at)]);
+    references.chain(library).collect()
+}
+
+/// The rooms of a job, just as large as it needs, and its answer.
+struct Lent {
+    work: Vec<u32>,
+    list: Vec<u32>,
+    answer: Answer,
+}
+
+impl Lent {
+    fn new(library: &Library, job: &Job) -> Lent {
+        let (settings, first, second) = (job.settings, &job.first, &job.second);
+        let records = library.need(settings, first, second);
+        let mut work = vec![0; RECORD * records as usize];
+        let short = library.compare(settings, first, second, &mut work, &mut []);
+        let mut list = vec![0; ENTRY * short.detail as usize];
+        let answer = library.compare(settings, first, second, &mut work, &mut list);
+        assert_eq!(answer.number, 0, "{} was refused", job.name);
+        Lent { work, list, answer }
+    }
+
+    /// One run. Whoever is asked, the answer is always the same.
+    fn run(&mut self, job: &Job, ask: impl Fn(&Job, &mut [u32], &mut [u32]) -> Answer) {
+        let answer = ask(job, &mut self.work, &mut self.list);
+        assert_eq!(answer, self.answer, "{}: two answers", job.name);
+    }
+}
+
+/// The reference's answer in the library's terms.
+fn by_reference(job: &Job, work: &mut [u32], list: &mut [u32]) -> Answer {
+    let Settings { k, b, a, m } = job.settings;
+    let settings = reference::Settings { k, b, a, m };
+    let given = reference::compare(settings, &job.first, &job.second, work, list);
+    Answer {
+        number: given.number,
+        sequence: given.sequence,
+        detail: given.detail,
+        listed: given.listed,
+        matches: given.matches,
+        widest: given.widest,
+        links: given.links,
+    }
+}
+
+/// The reference walks b + 1 rows for each match and looks at every link, at
+/// some nanoseconds a step.
+fn expected_time(job: &Job, answer: Answer) -> Duration {
+    let steps = answer.matches * u64::from(job.settings.b + 1);
+    Duration::from_nanos(12 * steps + 3 * answer.links)
+}
+
+/// The table of calls, and what was left out of it.
+pub fn print(title: &str, calls: &[Call]) {
+    let rows: Vec<Vec<String>> = calls.iter().map(row).collect();
+    table::print(title, &HEADINGS, &rows);
+    let skipped = calls.iter().filter(|call| call.reference.is_none());
+    let expected = skipped.map(|call| expected_time(&call.job, call.answer));
+    if let Some(longest) = expected.max() {
+        let minutes = longest.as_secs().div_ceil(60);
+        println!("Skipped: the reference would take more than 10 s, up to {minutes} minutes.\n");
+    }
+}
+
+fn row(call: &Call) -> Vec<String> {
+    let letters = call.job.first.len() + call.job.second.len();
+    let nanoseconds = call.time.as_nanos() as f64;
+    let reference = call.reference.map(|taken| times(ratio(taken, call.time)));
+    vec![
+        call.job.name.clone(),
+        duration(call.time),
+        three_digits(nanoseconds / letters as f64),
+        three_digits(nanoseconds / call.answer.matches as f64),
+        times(ratio(call.need, call.time)),
+        reference.unwrap_or_else(|| "skipped".to_string()),
+        count(call.answer.matches),
+        count(call.answer.links),
+        bytes(call.rooms[0]),
+        bytes(call.rooms[1]),
+    ]
+}
+
+/// How the time grows when both sequences become four times as long. The calls
+/// are those of the ordinary jobs, kind by kind at each of three lengths.
+pub fn print_growth(calls: &[Call]) {
+    let by_length: Vec<&[Call]> = calls.chunks(KINDS.len()).collect();
+    let pairs = by_length[1].iter().zip(by_length[2]).zip(KINDS);
+    let row = |((shorter, longer), (kind, _)): ((&Call, &Call), (&str, usize))| {
+        vec![kind.to_string(), times(ratio(longer.time, shorter.time))]
+    };
+    let rows: Vec<Vec<String>> = pairs.map(row).collect();
+    let title = "Growth from 4,096 to 16,384 letters, where 4 × is linear";
+    table::print(title, &["pair", "growth"], &rows);
+}

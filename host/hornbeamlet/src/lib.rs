@@ -1,0 +1,65 @@
+//! The proved library as safe Rust: the C boundary of `include/hornbeamlet.h`
+//! with slices for pointers and lengths, and the way to a listing that lends
+//! exactly the rooms that are needed.
+//!
+//! All unsafe code of the host is in the module `boundary`.
+//!
+//! ```
+//! use hornbeamlet::{with_library, Settings};
+//!
+//! let settings = Settings { k: 2, b: 2, a: 8, m: 0 };
+//! let listing = with_library(|library| library.list(settings, b"ACCGT", b"ACGGT")).unwrap();
+//! assert_eq!(listing.answer.matches, 3);
+//! assert_eq!(listing.entries[0].weight, 3);
+//! ```
+
+#![deny(unsafe_op_in_unsafe_fn)]
+
+mod boundary;
+#[forbid(unsafe_code)]
+mod listing;
+#[forbid(unsafe_code)]
+mod stack;
+
+pub use listing::{Entry, Listing, Refusal};
+pub use stack::{with_library, Library};
+
+/// Numbers of work room in one record.
+pub const RECORD: usize = 8;
+/// Numbers of list room in one entry.
+pub const ENTRY: usize = 5;
+/// What `need` adds to the number of a refusal.
+pub const REFUSED: u64 = 4_294_967_296;
+
+/// The four settings of a job. Any value may be asked for; those outside the
+/// library's table are refused by number.
+#[derive(Clone, Copy, Debug, PartialEq, Eq)]
+pub struct Settings {
+    /// The k-mer length, 1 to 31.
+    pub k: u32,
+    /// The gap bound, 1 to 1,024.
+    pub b: u32,
+    /// The repeat cap, 1 to 1,024.
+    pub a: u32,
+    /// The least span in bases, 0 to 16,384.
+    pub m: u32,
+}
+
+/// The seven numbers of an answer.
+#[derive(Clone, Copy, Debug, PartialEq, Eq)]
+pub struct Answer {
+    /// 0 when done, else the number of the refusal.
+    pub number: u64,
+    /// 0, or the sequence refused.
+    pub sequence: u64,
+    /// The particulars of the refusal.
+    pub detail: u64,
+    /// Entries listed; for the stopped sweep, records held.
+    pub listed: u64,
+    /// M, the number of matches.
+    pub matches: u64,
+    /// W, the most matches in any b + 1 rows.
+    pub widest: u64,
+    /// The link total.
+    pub links: u64,
+}

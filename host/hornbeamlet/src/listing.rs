@@ -1,0 +1,105 @@
+//! From settings and sequences to a listing, with rooms lent as needed.
+
+use crate::{Answer, Library, Settings, ENTRY, RECORD};
+
+/// Entries the list room holds at the first try: ten thousand bytes. A longer
+/// listing is asked for again with room for just so many.
+const FIRST_TRY: usize = 512;
+
+/// One entry: a closed match's chain, from its start to its last letters.
+#[derive(Clone, Copy, Debug, PartialEq, Eq)]
+pub struct Entry {
+    /// First place in the first sequence.
+    pub first_start: u32,
+    /// Last place in the first sequence.
+    pub first_end: u32,
+    /// First place in the second sequence.
+    pub second_start: u32,
+    /// Last place in the second sequence.
+    pub second_end: u32,
+    /// The weight of the chain, its number of matches.
+    pub weight: u32,
+}
+
+impl Entry {
+    fn new(numbers: &[u32]) -> Entry {
+        Entry {
+            first_start: numbers[0],
+            first_end: numbers[1],
+            second_start: numbers[2],
+            second_end: numbers[3],
+            weight: numbers[4],
+        }
+    }
+
+    /// The span in the first sequence, in bases.
+    pub fn first_span(&self) -> u32 {
+        self.first_end + 1 - self.first_start
+    }
+
+    /// The span in the second sequence, in bases.
+    pub fn second_span(&self) -> u32 {
+        self.second_end + 1 - self.second_start
+    }
+}
+
+/// A whole listing.
+#[derive(Clone, Debug, PartialEq, Eq)]
+pub struct Listing {
+    /// The answer; its number is 0.
+    pub answer: Answer,
+    /// The entries in their order.
+    pub entries: Vec<Entry>,
+}
+
+/// A refusal and its particulars.
+#[derive(Clone, Copy, Debug, PartialEq, Eq)]
+pub struct Refusal {
+    /// Its number, never 0.
+    pub number: u64,
+    /// 0, or the sequence refused.
+    pub sequence: u64,
+    /// Place, room or number of rows, by the number.
+    pub detail: u64,
+}
+
+impl Library {
+    /// The listing of a job. Work room is lent exactly as `need` tells, list
+    /// room for some entries and, where that was short, for just so many as
+    /// there are. What is refused then is one of 1 to 6.
+    pub fn list(
+        &self,
+        settings: Settings,
+        first: &[u8],
+        second: &[u8],
+    ) -> Result<Listing, Refusal> {
+        let mut work = vec![0; RECORD * self.records_needed(settings, first, second)];
+        let mut list = vec![0; ENTRY * FIRST_TRY];
+        let mut answer = self.compare(settings, first, second, &mut work, &mut list);
+        if answer.number == 8 {
+            list.resize(ENTRY * answer.detail as usize, 0);
+            answer = self.compare(settings, first, second, &mut work, &mut list);
+        }
+        listing(answer, &list)
+    }
+
+    /// W, or 0 for a job that is refused: `compare` then refuses it before it
+    /// looks at the rooms, and tells the sequence and place as well.
+    fn records_needed(&self, settings: Settings, first: &[u8], second: &[u8]) -> usize {
+        let reply = self.need(settings, first, second);
+        u32::try_from(reply).map_or(0, |records| records as usize)
+    }
+}
+
+fn listing(answer: Answer, list: &[u32]) -> Result<Listing, Refusal> {
+    if answer.number != 0 {
+        return Err(Refusal {
+            number: answer.number,
+            sequence: answer.sequence,
+            detail: answer.detail,
+        });
+    }
+    let listed = list.chunks_exact(ENTRY).take(answer.listed as usize);
+    let entries = listed.map(Entry::new).collect();
+    Ok(Listing { answer, entries })
+}

@@ -1,0 +1,169 @@
+//! The limits the document names, asked of the library by hand: every refusal,
+//! the order of the checks, and what each leaves in the rooms.
+
+#![forbid(unsafe_code)]
+
+use hornbeamlet::{with_library, Answer, Entry, Library, Refusal, Settings, REFUSED};
+
+const STALE: u32 = 77;
+
+/// The settings of P1 to P4.
+const P1: Settings = settings(2, 2, 8, 0);
+
+const fn settings(k: u32, b: u32, a: u32, m: u32) -> Settings {
+    Settings { k, b, a, m }
+}
+
+fn answer(refusal: [u64; 3], tallies: [u64; 4]) -> Answer {
+    Answer {
+        number: refusal[0],
+        sequence: refusal[1],
+        detail: refusal[2],
+        listed: tallies[0],
+        matches: tallies[1],
+        widest: tallies[2],
+        links: tallies[3],
+    }
+}
+
+fn refused(number: u64, sequence: u64, detail: u64) -> Answer {
+    answer([number, sequence, detail], [0; 4])
+}
+
+/// `compare` with rooms of so many stale numbers, and the rooms afterwards.
+fn compared(
+    library: &Library,
+    settings: Settings,
+    sequences: [&[u8]; 2],
+    rooms: [usize; 2],
+) -> (Answer, Vec<u32>, Vec<u32>) {
+    let [mut work, mut list] = rooms.map(|length| vec![STALE; length]);
+    let answer = library.compare(settings, sequences[0], sequences[1], &mut work, &mut list);
+    (answer, work, list)
+}
+
+#[test]
+fn work_room_just_enough_and_one_number_less() {
+    with_library(|library| {
+        let run = |work| compared(library, P1, [b"ACCGT", b"ACGGT"], [work, 5]);
+        let done = answer([0; 3], [1, 3, 2, 2]);
+        assert_eq!(run(16), (done, vec![0; 16], vec![1, 5, 1, 5, 3]));
+        assert_eq!(run(15), (refused(7, 0, 2), vec![0; 15], vec![0; 5]));
+    });
+}
+
+#[test]
+fn list_room_just_enough_and_one_number_less() {
+    with_library(|library| {
+        let p5 = settings(1, 1, 6, 0);
+        let run = |list| compared(library, p5, [b"AAA", b"AAA"], [48, list]);
+        assert_eq!(run(25).0, answer([0; 3], [5, 9, 6, 16]));
+        assert_eq!(run(24), (refused(8, 0, 5), vec![0; 48], vec![0; 24]));
+    });
+}
+
+#[test]
+fn no_letters_and_no_rooms() {
+    with_library(|library| {
+        let p10 = compared(library, settings(1, 1, 1, 0), [b"", b""], [0, 0]);
+        assert_eq!(p10, (answer([0; 3], [0; 4]), vec![], vec![]));
+    });
+}
+
+#[test]
+fn settings_outside_the_table_leave_the_rooms_untouched() {
+    with_library(|library| {
+        let cases = [
+            (settings(0, 0, 0, 16_385), 1),
+            (settings(32, 1, 1, 0), 1),
+            (settings(1, 0, 0, 16_385), 2),
+            (settings(1, 1_025, 1, 0), 2),
+            (settings(1, 1, 0, 16_385), 3),
+            (settings(1, 1, 1_025, 0), 3),
+            (settings(1, 1, 1, 16_385), 4),
+            (settings(u32::MAX, 1, 1, 0), 1),
+        ];
+        for (settings, number) in cases {
+            let given = compared(library, settings, [b"ACGT", b"u"], [9, 9]);
+            let stale = vec![STALE; 9];
+            assert_eq!(given, (refused(number, 0, 0), stale.clone(), stale));
+            assert_eq!(library.need(settings, b"u", b""), REFUSED + number);
+        }
+        let widest = settings(31, 1_024, 1_024, 16_384);
+        assert_eq!(library.need(widest, b"ACGT", b"ACGT"), 0);
+    });
+}
+
+#[test]
+fn sequences_too_long_or_with_other_letters() {
+    let (fits, over) = (vec![b'A'; 16_384], vec![b'A'; 16_385]);
+    let bad = [b"ACGT".repeat(4_095), b"ACuT".to_vec()].concat();
+    let cases: [([&[u8]; 2], Answer); 6] = [
+        ([&over, &over], refused(5, 1, 0)),
+        ([&bad, &over], refused(5, 2, 0)),
+        ([&bad, b"Z"], refused(6, 1, 16_383)),
+        ([&fits, b"ACZ-"], refused(6, 2, 3)),
+        ([b"", b"a"], refused(6, 2, 1)),
+        ([&fits, &fits], answer([0; 3], [0; 4])),
+    ];
+    with_library(|library| {
+        for (sequences, expected) in cases {
+            let (answer, work, _) =
+                compared(library, settings(1, 1, 1_024, 0), sequences, [24, 10]);
+            let left = if expected.number == 0 { 0 } else { STALE };
+            assert_eq!((answer, work), (expected, vec![left; 24]));
+        }
+    });
+}
+
+#[test]
+fn the_stopped_sweep_at_every_row_of_p1() {
+    with_library(|library| {
+        let run = |row| {
+            let mut work = vec![STALE; 17];
+            let answer = library.stopped(P1, b"ACCGT", b"ACGGT", &mut work, row);
+            (answer, work)
+        };
+        let held = |records: &[u32]| {
+            let mut work = records.to_vec();
+            work.resize(17, 0);
+            let count = records.len() as u64 / 8;
+            (answer([0; 3], [count, 3, 2, 2]), work)
+        };
+        let (one, two) = ([1, 1, 1, 1, 1, 0, 0, 0], [3, 2, 2, 1, 1, 0, 0, 0]);
+        let three = [4, 4, 3, 1, 1, 0, 0, 0];
+        assert_eq!(run(0), held(&[]));
+        assert_eq!(run(1), held(&one));
+        assert_eq!(run(2), held(&one));
+        assert_eq!(run(3), held(&[one, two].concat()));
+        assert_eq!(run(4), held(&[two, three].concat()));
+        assert_eq!(run(5), (refused(19, 0, 4), vec![0; 17]));
+        assert_eq!(run(u32::MAX), (refused(19, 0, 4), vec![0; 17]));
+    });
+}
+
+#[test]
+fn the_listing_lends_what_is_needed() {
+    with_library(|library| {
+        let entry = Entry {
+            first_start: 1,
+            first_end: 5,
+            second_start: 1,
+            second_end: 5,
+            weight: 3,
+        };
+        let listing = library.list(P1, b"ACCGT", b"ACGGT").unwrap();
+        assert_eq!(listing.entries, [entry]);
+        assert_eq!((entry.first_span(), entry.second_span()), (5, 5));
+        // More entries than the first try has room for: with b 1, k 1 and one
+        // letter every match of the last row and of the last column is closed.
+        let many = library.list(settings(1, 1, 1_000, 0), &[b'A'; 500], &[b'A'; 500]);
+        assert_eq!(many.unwrap().entries.len(), 999);
+        let refusal = Refusal {
+            number: 6,
+            sequence: 2,
+            detail: 4,
+        };
+        assert_eq!(library.list(P1, b"ACCGT", b"ACGu"), Err(refusal));
+    });
+}

@@ -1,0 +1,56 @@
+//! The library in the reference's own terms, so that one question can be put to
+//! both and their answers compared whole.
+
+use hornbeamlet::Library;
+use reference::calls::Calls;
+use reference::{Answer, Settings};
+
+/// The library as one who answers the three calls.
+pub struct Proved<'a>(pub &'a Library);
+
+impl Calls for Proved<'_> {
+    fn compare(
+        &self,
+        settings: Settings,
+        first: &[u8],
+        second: &[u8],
+        work: &mut [u32],
+        list: &mut [u32],
+    ) -> Answer {
+        let settings = to_library(settings);
+        from_library(self.0.compare(settings, first, second, work, list))
+    }
+
+    fn stopped(
+        &self,
+        settings: Settings,
+        first: &[u8],
+        second: &[u8],
+        work: &mut [u32],
+        row: u32,
+    ) -> Answer {
+        let settings = to_library(settings);
+        from_library(self.0.stopped(settings, first, second, work, row))
+    }
+
+    fn need(&self, settings: Settings, first: &[u8], second: &[u8]) -> u64 {
+        self.0.need(to_library(settings), first, second)
+    }
+}
+
+fn to_library(settings: Settings) -> hornbeamlet::Settings {
+    let Settings { k, b, a, m } = settings;
+    hornbeamlet::Settings { k, b, a, m }
+}
+
+fn from_library(answer: hornbeamlet::Answer) -> Answer {
+    Answer {
+        number: answer.number,
+        sequence: answer.sequence,
+        detail: answer.detail,
+        listed: answer.listed,
+        matches: answer.matches,
+        widest: answer.widest,
+        links: answer.links,
+    }
+}

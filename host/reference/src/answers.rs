@@ -1,0 +1,277 @@
+//! Settings, checks, rooms and answers.
+
+use crate::chains::{is_closed, sweep, Match};
+use crate::kmers::{count, matches, places, widest, Rows};
+use crate::letters::first_bad_place;
+use std::ops::RangeInclusive;
+
+/// "length of each sequence", 0 to 16,384 letters.
+pub const LONGEST: usize = 16_384;
+/// "Work room holds one record in each eight numbers".
+const RECORD: usize = 8;
+/// "list room one entry in each five".
+const ENTRY: usize = 5;
+/// What `need` adds to a refusal number: "4,294,967,296 plus the refusal
+/// number 1 to 6".
+const REFUSED_NEED: u64 = 4_294_967_296;
+
+/// The four settings of a job.
+#[derive(Clone, Copy, Debug, PartialEq, Eq)]
+pub struct Settings {
+    /// The k-mer length.
+    pub k: u32,
+    /// The gap bound.
+    pub b: u32,
+    /// The repeat cap.
+    pub a: u32,
+    /// The least span in bases.
+    pub m: u32,
+}
+
+/// "The answer is a number, a sequence (0, 1 or 2), a detail, and four
+/// tallies".
+#[derive(Clone, Copy, Debug, PartialEq, Eq)]
+pub struct Answer {
+    /// 0 when done, else the number of the refusal.
+    pub number: u64,
+    /// 0, or the sequence refused.
+    pub sequence: u64,
+    /// The particulars of the refusal.
+    pub detail: u64,
+    /// Entries listed; for the stopped sweep the records held.
+    pub listed: u64,
+    /// M.
+    pub matches: u64,
+    /// W.
+    pub widest: u64,
+    /// The link total.
+    pub links: u64,
+}
+
+/// "On refusal all four are 0."
+fn refused(number: u64, sequence: u64, detail: u64) -> Answer {
+    Answer {
+        number,
+        sequence,
+        detail,
+        listed: 0,
+        matches: 0,
+        widest: 0,
+        links: 0,
+    }
+}
+
+/// The two sequences compared. "0 | done | 0, 0 | list: entries, then zeros;
+/// work: zeros". After 1 to 6 both rooms are "untouched", after 7 and 8 "both
+/// all zeros".
+pub fn compare(
+    settings: Settings,
+    first: &[u8],
+    second: &[u8],
+    work: &mut [u32],
+    list: &mut [u32],
+) -> Answer {
+    if let Err(refusal) = check_inputs(settings, first, second) {
+        return refusal;
+    }
+    work.fill(0);
+    list.fill(0);
+    let job = Job::new(settings, first, second);
+    let listed = job.check_work(work).and_then(|()| job.list_into(list));
+    listed.unwrap_or_else(|refusal| refusal)
+}
+
+/// "The stopped sweep takes the settings, both sequences, work room and a row
+/// r, with no list room; m is checked and not used."
+pub fn stopped(
+    settings: Settings,
+    first: &[u8],
+    second: &[u8],
+    work: &mut [u32],
+    row: u32,
+) -> Answer {
+    if let Err(refusal) = check_inputs(settings, first, second) {
+        return refusal;
+    }
+    work.fill(0);
+    let job = Job::new(settings, first, second);
+    let checked = job.check_work(work).and_then(|()| job.check_row(row));
+    let held = checked.map(|()| job.hold_in(work, row));
+    held.unwrap_or_else(|refusal| refusal)
+}
+
+/// "how much work room is needed. The reply is W, or 4,294,967,296 plus the
+/// refusal number 1 to 6."
+pub fn need(settings: Settings, first: &[u8], second: &[u8]) -> u64 {
+    match check_inputs(settings, first, second) {
+        Err(refusal) => REFUSED_NEED + refusal.number,
+        Ok(()) => Job::new(settings, first, second).widest,
+    }
+}
+
+/// "Checks go from 1 to 8 [...] and the first that applies is given, even if a
+/// later one also does." These are 1 to 6, which leave the rooms untouched.
+fn check_inputs(settings: Settings, first: &[u8], second: &[u8]) -> Result<(), Answer> {
+    check_setting(1, settings.k, 1..=31)?;
+    check_setting(2, settings.b, 1..=1_024)?;
+    check_setting(3, settings.a, 1..=1_024)?;
+    check_setting(4, settings.m, 0..=16_384)?;
+    check_length(1, first)?;
+    check_length(2, second)?;
+    check_letters(1, first)?;
+    check_letters(2, second)
+}
+
+/// "k, b, a, m outside the table".
+fn check_setting(number: u64, value: u32, accepted: RangeInclusive<u32>) -> Result<(), Answer> {
+    if accepted.contains(&value) {
+        Ok(())
+    } else {
+        Err(refused(number, 0, 0))
+    }
+}
+
+/// "a sequence too long, the first looked at first".
+fn check_length(which: u64, sequence: &[u8]) -> Result<(), Answer> {
+    if sequence.len() <= LONGEST {
+        Ok(())
+    } else {
+        Err(refused(5, which, 0))
+    }
+}
+
+/// "a letter not among the fifteen; all of the first sequence before the
+/// second", the detail "its first such place".
+fn check_letters(which: u64, sequence: &[u8]) -> Result<(), Answer> {
+    match first_bad_place(sequence) {
+        None => Ok(()),
+        Some(place) => Err(refused(6, which, place as u64)),
+    }
+}
+
+/// A job whose settings, lengths and letters are accepted.
+struct Job {
+    settings: Settings,
+    rows: Rows,
+    row_count: u64,
+    widest: u64,
+}
+
+impl Job {
+    fn new(settings: Settings, first: &[u8], second: &[u8]) -> Job {
+        let k = settings.k as usize;
+        let rows = matches(k, settings.a as usize, first, second);
+        let widest = widest(&rows, settings.b as usize);
+        Job {
+            settings,
+            row_count: places(first.len(), k) as u64,
+            rows,
+            widest,
+        }
+    }
+
+    /// "work room below W records", the detail W.
+    fn check_work(&self, work: &[u32]) -> Result<(), Answer> {
+        let records = (work.len() / RECORD) as u64;
+        if records < self.widest {
+            return Err(refused(7, 0, self.widest));
+        }
+        Ok(())
+    }
+
+    /// "stopped sweep: row above the number of rows", the detail that number.
+    fn check_row(&self, row: u32) -> Result<(), Answer> {
+        if u64::from(row) > self.row_count {
+            return Err(refused(19, 0, self.row_count));
+        }
+        Ok(())
+    }
+
+    /// "list: entries, then zeros", or "list room below the number of entries",
+    /// the detail that number. The room is all zeros already.
+    fn list_into(&self, list: &mut [u32]) -> Result<Answer, Answer> {
+        let swept = sweep(&self.rows, self.settings.b);
+        let entries = self.listing(&swept.rows);
+        let listed = entries.len() as u64;
+        if ((list.len() / ENTRY) as u64) < listed {
+            return Err(refused(8, 0, listed));
+        }
+        for (lent, entry) in list.chunks_exact_mut(ENTRY).zip(&entries) {
+            lent.copy_from_slice(entry);
+        }
+        Ok(self.done(listed, swept.links))
+    }
+
+    /// "The listing holds every closed match whose two spans are both at least
+    /// m, by end row, then end column. Both are compared as numbers."
+    fn listing(&self, rows: &[Vec<Match>]) -> Vec<[u32; ENTRY]> {
+        let b = self.settings.b;
+        let all = rows.iter().flatten();
+        let closed = all.filter(|it| is_closed(&self.rows, it.row, it.column, b));
+        let wide = closed.filter(|it| self.spans(it).iter().all(|&span| span >= self.settings.m));
+        let mut entries: Vec<[u32; ENTRY]> = wide.map(|it| self.entry(it)).collect();
+        entries.sort_by_key(|entry| (entry[1], entry[3]));
+        entries
+    }
+
+    /// "Spans of a closed match (i, j) started at (p, q): i + k - p bases and
+    /// j + k - q bases."
+    fn spans(&self, it: &Match) -> [u32; 2] {
+        let k = self.settings.k;
+        [it.row + k - it.start_row, it.column + k - it.start_column]
+    }
+
+    /// "An entry is five 32-bit numbers: p, i + k - 1, q, j + k - 1, weight."
+    fn entry(&self, it: &Match) -> [u32; ENTRY] {
+        let k = self.settings.k;
+        [
+            it.start_row,
+            it.row + k - 1,
+            it.start_column,
+            it.column + k - 1,
+            it.weight,
+        ]
+    }
+
+    /// "It leaves the records of all matches in rows max(1, r - b) to r, by row
+    /// then column from the front, and zeros after them. [...] Row 0 leaves
+    /// only zeros. Its tallies are the records held, then M, W and the link
+    /// total of the whole job." The room is all zeros already.
+    fn hold_in(&self, work: &mut [u32], row: u32) -> Answer {
+        let swept = sweep(&self.rows, self.settings.b);
+        let lowest = row.saturating_sub(self.settings.b).max(1);
+        let kept = |it: &&Match| lowest <= it.row && it.row <= row;
+        let held: Vec<&Match> = swept.rows.iter().flatten().filter(kept).collect();
+        for (lent, it) in work.chunks_exact_mut(RECORD).zip(&held) {
+            lent.copy_from_slice(&record(it));
+        }
+        self.done(held.len() as u64, swept.links)
+    }
+
+    /// "0 | done | 0, 0", with the four tallies.
+    fn done(&self, listed: u64, links: u64) -> Answer {
+        Answer {
+            number: 0,
+            sequence: 0,
+            detail: 0,
+            listed,
+            matches: count(&self.rows),
+            widest: self.widest,
+            links,
+        }
+    }
+}
+
+/// "A record is row, column, weight, start row, start column and three zeros."
+fn record(it: &Match) -> [u32; RECORD] {
+    [
+        it.row,
+        it.column,
+        it.weight,
+        it.start_row,
+        it.start_column,
+        0,
+        0,
+        0,
+    ]
+}

@@ -1,0 +1,180 @@
+//! One question a line and its answer, as written in the vectors' calls.
+//!
+//! The question: `op=compare`, `op=stopped` or `op=need`, the settings `k=`,
+//! `b=`, `a=`, `m=`, the sequences `s=` and `t=` (`-` is empty,
+//! `rep:UNIT:COUNT` a repeat), the rooms' lengths `work=` and `list=` in
+//! numbers, and the row `row=` of a stopped sweep.
+
+use crate::answers::{self, Answer, Settings};
+use std::str::FromStr;
+
+/// Whoever answers the three calls. The vectors are put to more than one.
+pub trait Calls {
+    /// The two sequences compared.
+    fn compare(
+        &self,
+        settings: Settings,
+        first: &[u8],
+        second: &[u8],
+        work: &mut [u32],
+        list: &mut [u32],
+    ) -> Answer;
+
+    /// The stopped sweep.
+    fn stopped(
+        &self,
+        settings: Settings,
+        first: &[u8],
+        second: &[u8],
+        work: &mut [u32],
+        row: u32,
+    ) -> Answer;
+
+    /// How much work room is needed.
+    fn need(&self, settings: Settings, first: &[u8], second: &[u8]) -> u64;
+}
+
+/// The reference itself as the one who answers.
+pub struct Reference;
+
+impl Calls for Reference {
+    fn compare(
+        &self,
+        settings: Settings,
+        first: &[u8],
+        second: &[u8],
+        work: &mut [u32],
+        list: &mut [u32],
+    ) -> Answer {
+        answers::compare(settings, first, second, work, list)
+    }
+
+    fn stopped(
+        &self,
+        settings: Settings,
+        first: &[u8],
+        second: &[u8],
+        work: &mut [u32],
+        row: u32,
+    ) -> Answer {
+        answers::stopped(settings, first, second, work, row)
+    }
+
+    fn need(&self, settings: Settings, first: &[u8], second: &[u8]) -> u64 {
+        answers::need(settings, first, second)
+    }
+}
+
+/// The reference's answer to one question, or what is wrong with the question.
+pub fn answer(question: &str) -> Result<String, String> {
+    answer_by(&Reference, question)
+}
+
+/// The answer of whoever is asked.
+pub fn answer_by(asked: &impl Calls, question: &str) -> Result<String, String> {
+    match field(question, "op")? {
+        "compare" => answer_compare(asked, question),
+        "stopped" => answer_stopped(asked, question),
+        "need" => answer_need(asked, question),
+        other => Err(format!("no such op: {other}")),
+    }
+}
+
+fn answer_compare(asked: &impl Calls, question: &str) -> Result<String, String> {
+    let (settings, first, second) = job(question)?;
+    let mut work = lent(number(question, "work")?);
+    let mut list = lent(number(question, "list")?);
+    let answer = asked.compare(settings, &first, &second, &mut work, &mut list);
+    let (numbers, work, list) = (shown(&answer), room(&work), room(&list));
+    Ok(format!("op=compare {numbers} work={work} list={list}"))
+}
+
+fn answer_stopped(asked: &impl Calls, question: &str) -> Result<String, String> {
+    let (settings, first, second) = job(question)?;
+    let mut work = lent(number(question, "work")?);
+    let row = number(question, "row")?;
+    let answer = asked.stopped(settings, &first, &second, &mut work, row);
+    let (numbers, work) = (shown(&answer), room(&work));
+    Ok(format!("op=stopped {numbers} work={work}"))
+}
+
+fn answer_need(asked: &impl Calls, question: &str) -> Result<String, String> {
+    let (settings, first, second) = job(question)?;
+    let reply = asked.need(settings, &first, &second);
+    Ok(format!("op=need reply={reply}"))
+}
+
+fn field<'a>(question: &'a str, name: &str) -> Result<&'a str, String> {
+    let pairs = question.split_whitespace();
+    let mut pairs = pairs.filter_map(|pair| pair.split_once('='));
+    let found = pairs.find(|pair| pair.0 == name);
+    found.map(|pair| pair.1).ok_or(format!("no {name}="))
+}
+
+fn number<T: FromStr>(question: &str, name: &str) -> Result<T, String> {
+    let text = field(question, name)?;
+    text.parse()
+        .map_err(|_| format!("{name}={text} is no number"))
+}
+
+fn job(question: &str) -> Result<(Settings, Vec<u8>, Vec<u8>), String> {
+    let settings = Settings {
+        k: number(question, "k")?,
+        b: number(question, "b")?,
+        a: number(question, "a")?,
+        m: number(question, "m")?,
+    };
+    let first = sequence(field(question, "s")?)?;
+    let second = sequence(field(question, "t")?)?;
+    Ok((settings, first, second))
+}
+
+/// "`-` is empty, `rep:UNIT:COUNT` a repeat".
+fn sequence(text: &str) -> Result<Vec<u8>, String> {
+    if text == "-" {
+        return Ok(Vec::new());
+    }
+    let Some(repeat) = text.strip_prefix("rep:") else {
+        return Ok(text.as_bytes().to_vec());
+    };
+    let (unit, count) = repeat.split_once(':').ok_or("a repeat without a count")?;
+    let count = count.parse().map_err(|_| format!("{text} is no repeat"))?;
+    Ok(unit.as_bytes().repeat(count))
+}
+
+/// What a room holds before the call at each of its numbers, never 0.
+fn before(index: usize) -> u32 {
+    u32::MAX - index as u32
+}
+
+fn lent(length: usize) -> Vec<u32> {
+    (0..length).map(before).collect()
+}
+
+/// "each room whole afterwards, `untouched` where nothing was written, `-` for
+/// a room of no numbers".
+fn room(after: &[u32]) -> String {
+    if after.is_empty() {
+        return "-".to_string();
+    }
+    let mut numbers = after.iter().enumerate();
+    if numbers.all(|(index, &value)| value == before(index)) {
+        return "untouched".to_string();
+    }
+    let texts: Vec<String> = after.iter().map(u32::to_string).collect();
+    texts.join(",")
+}
+
+/// "The answer: number, sequence, detail, the four tallies".
+fn shown(answer: &Answer) -> String {
+    format!(
+        "number={} sequence={} detail={} tallies={},{},{},{}",
+        answer.number,
+        answer.sequence,
+        answer.detail,
+        answer.listed,
+        answer.matches,
+        answer.widest,
+        answer.links
+    )
+}

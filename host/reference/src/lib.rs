@@ -1,0 +1,29 @@
+//! A separate reference for the chain listing, its rooms and its frames.
+//!
+//! It follows the words of the document "Build description and exact rules"
+//! (01-scope) and keeps to the slow and obvious way: k-mers are compared as
+//! letters, all matches of a job are held at once, and every rule is looked up
+//! by walking the rows it speaks of. Comments in quotation marks are sentences
+//! of the document.
+//!
+//! The rule on where records are kept from one match to the next binds the
+//! build this reference is compared with. Here only what the rooms hold
+//! afterwards is rendered.
+
+#![forbid(unsafe_code)]
+
+pub mod answers;
+pub mod calls;
+pub mod chains;
+pub mod frames;
+pub mod kmers;
+pub mod letters;
+pub mod program;
+pub mod random;
+
+pub use answers::{compare, need, stopped, Answer, Settings};
+pub use frames::{
+    read_done, read_entry, read_refused, write_done, write_end, write_entry, write_job,
+    write_piece, write_refused, Reading,
+};
+pub use program::chain;

@@ -1,0 +1,254 @@
+//! The examples in the registry, P1 to P11, and the boundaries named there.
+
+use reference::{chain, compare, need, stopped, Answer, Settings};
+
+const STALE: u32 = 77;
+
+fn settings(k: u32, b: u32, a: u32, m: u32) -> Settings {
+    Settings { k, b, a, m }
+}
+
+fn answer(refusal: [u64; 3], tallies: [u64; 4]) -> Answer {
+    Answer {
+        number: refusal[0],
+        sequence: refusal[1],
+        detail: refusal[2],
+        listed: tallies[0],
+        matches: tallies[1],
+        widest: tallies[2],
+        links: tallies[3],
+    }
+}
+
+fn done(tallies: [u64; 4]) -> Answer {
+    answer([0, 0, 0], tallies)
+}
+
+fn refused(number: u64, sequence: u64, detail: u64) -> Answer {
+    answer([number, sequence, detail], [0; 4])
+}
+
+/// The numbers given, then zeros up to the length of the room.
+fn then_zeros(front: &[u32], length: usize) -> Vec<u32> {
+    let mut room = front.to_vec();
+    room.resize(length, 0);
+    room
+}
+
+struct Example<'a> {
+    settings: Settings,
+    first: &'a [u8],
+    second: &'a [u8],
+    rooms: (usize, usize),
+}
+
+/// "Where no room is named, each has 100 numbers."
+fn example<'a>(settings: Settings, first: &'a [u8], second: &'a [u8]) -> Example<'a> {
+    Example {
+        settings,
+        first,
+        second,
+        rooms: (100, 100),
+    }
+}
+
+impl Example<'_> {
+    fn run(&self) -> (Answer, Vec<u32>, Vec<u32>) {
+        let mut work = vec![STALE; self.rooms.0];
+        let mut list = vec![STALE; self.rooms.1];
+        let answer = compare(self.settings, self.first, self.second, &mut work, &mut list);
+        (answer, work, list)
+    }
+
+    fn gives(&self, answer: Answer, entries: &[[u32; 5]]) {
+        let work = vec![0; self.rooms.0];
+        let list = then_zeros(&entries.concat(), self.rooms.1);
+        assert_eq!(self.run(), (answer, work, list));
+    }
+
+    fn leaves_untouched(&self, answer: Answer) {
+        let work = vec![STALE; self.rooms.0];
+        let list = vec![STALE; self.rooms.1];
+        assert_eq!(self.run(), (answer, work, list));
+    }
+}
+
+fn p1() -> Example<'static> {
+    example(settings(2, 2, 8, 0), b"ACCGT", b"ACGGT")
+}
+
+fn p5() -> Example<'static> {
+    example(settings(1, 1, 6, 0), b"AAA", b"AAA")
+}
+
+#[test]
+fn example_p1() {
+    p1().gives(done([1, 3, 2, 2]), &[[1, 5, 1, 5, 3]]);
+    assert_eq!(need(p1().settings, b"ACCGT", b"ACGGT"), 2);
+}
+
+#[test]
+fn example_p2() {
+    let mut p2 = p1();
+    p2.settings.b = 1;
+    let entries = [[1, 2, 1, 2, 1], [3, 4, 2, 3, 1], [4, 5, 4, 5, 1]];
+    p2.gives(done([3, 3, 2, 0]), &entries);
+}
+
+#[test]
+fn example_p3() {
+    let mut p3 = p1();
+    p3.rooms.0 = 16;
+    p3.gives(done([1, 3, 2, 2]), &[[1, 5, 1, 5, 3]]);
+}
+
+#[test]
+fn example_p4() {
+    let mut p4 = p1();
+    p4.rooms.0 = 15;
+    p4.gives(refused(7, 0, 2), &[]);
+}
+
+#[test]
+fn example_p5() {
+    let entries = [
+        [1, 1, 1, 3, 3],
+        [1, 2, 1, 3, 4],
+        [1, 3, 1, 1, 3],
+        [1, 3, 1, 2, 4],
+        [1, 3, 1, 3, 5],
+    ];
+    p5().gives(done([5, 9, 6, 16]), &entries);
+}
+
+#[test]
+fn example_p6() {
+    let mut p6 = p5();
+    p6.settings.a = 5;
+    p6.gives(done([0, 0, 0, 0]), &[]);
+}
+
+#[test]
+fn example_p7() {
+    let mut p7 = p5();
+    p7.settings.m = 3;
+    p7.gives(done([1, 9, 6, 16]), &[[1, 3, 1, 3, 5]]);
+}
+
+#[test]
+fn example_p8() {
+    let p8 = example(settings(2, 3, 3, 0), b"ACNAC", b"AC");
+    p8.gives(done([2, 2, 2, 1]), &[[1, 2, 1, 2, 1], [1, 5, 1, 2, 2]]);
+}
+
+#[test]
+fn example_p9() {
+    let p9 = example(settings(2, 2, 3, 0), b"ACNAC", b"AC");
+    p9.gives(done([2, 2, 1, 0]), &[[1, 2, 1, 2, 1], [4, 5, 1, 2, 1]]);
+}
+
+#[test]
+fn example_p10() {
+    let mut p10 = example(settings(1, 1, 1, 0), b"", b"");
+    p10.rooms = (0, 0);
+    p10.gives(done([0, 0, 0, 0]), &[]);
+}
+
+#[test]
+fn example_p11() {
+    let mut work = vec![STALE; 100];
+    let held = stopped(p1().settings, b"ACCGT", b"ACGGT", &mut work, 3);
+    let records = [1, 1, 1, 1, 1, 0, 0, 0, 3, 2, 2, 1, 1, 0, 0, 0];
+    assert_eq!(held, done([2, 3, 2, 2]));
+    assert_eq!(work, then_zeros(&records, 100));
+}
+
+#[test]
+fn the_stopped_sweep_at_its_other_rows() {
+    let run = |row: u32, numbers: usize| {
+        let mut work = vec![STALE; numbers];
+        let held = stopped(p1().settings, b"ACCGT", b"ACGGT", &mut work, row);
+        (held, work)
+    };
+    assert_eq!(run(0, 100), (done([0, 3, 2, 2]), vec![0; 100]));
+    let records = [3, 2, 2, 1, 1, 0, 0, 0, 4, 4, 3, 1, 1, 0, 0, 0];
+    let after_row_4 = then_zeros(&records, 17);
+    assert_eq!(run(4, 17), (done([2, 3, 2, 2]), after_row_4));
+    assert_eq!(run(5, 100), (refused(19, 0, 4), vec![0; 100]));
+    assert_eq!(run(5, 15), (refused(7, 0, 2), vec![0; 15]));
+}
+
+#[test]
+fn a_list_room_too_small_by_one_number() {
+    let mut short = p5();
+    short.rooms.1 = 24;
+    short.gives(refused(8, 0, 5), &[]);
+    short.rooms.0 = 47;
+    short.gives(refused(7, 0, 6), &[]);
+}
+
+#[test]
+fn the_boundaries_of_the_settings() {
+    let with = |k, b, a, m| example(settings(k, b, a, m), b"ACGT", b"ACGT");
+    with(31, 1_024, 1_024, 16_384).gives(done([0; 4]), &[]);
+    for k in [0, 32] {
+        with(k, 0, 0, 16_385).leaves_untouched(refused(1, 0, 0));
+    }
+    for b in [0, 1_025] {
+        with(1, b, 0, 16_385).leaves_untouched(refused(2, 0, 0));
+    }
+    for a in [0, 1_025] {
+        with(1, 1, a, 16_385).leaves_untouched(refused(3, 0, 0));
+    }
+    with(1, 1, 1, 16_385).leaves_untouched(refused(4, 0, 0));
+}
+
+#[test]
+fn the_boundaries_of_the_sequences() {
+    let (fits, over) = (vec![b'A'; 16_384], vec![b'A'; 16_385]);
+    let bad = [b"ACGT".repeat(4_095), b"ACuT".to_vec()].concat();
+    let with = |first, second| example(settings(1, 1, 1, 0), first, second);
+    with(&fits, &fits).gives(done([0; 4]), &[]);
+    with(&over, &over).leaves_untouched(refused(5, 1, 0));
+    with(&bad, &over).leaves_untouched(refused(5, 2, 0));
+    with(&bad, b"Z").leaves_untouched(refused(6, 1, 16_383));
+    with(&fits, b"ACZ-").leaves_untouched(refused(6, 2, 3));
+}
+
+#[test]
+fn the_room_needed_or_the_refusal() {
+    let over = vec![b'A'; 16_385];
+    let base = 4_294_967_296;
+    assert_eq!(need(settings(0, 0, 1, 0), b"", b""), base + 1);
+    assert_eq!(need(settings(1, 0, 1, 0), b"", b""), base + 2);
+    assert_eq!(need(settings(1, 1, 0, 0), b"", b""), base + 3);
+    assert_eq!(need(settings(1, 1, 1, 16_385), b"", b""), base + 4);
+    assert_eq!(need(settings(1, 1, 1, 0), b"x", &over), base + 5);
+    assert_eq!(need(settings(1, 1, 1, 0), b"", b"x"), base + 6);
+    assert_eq!(need(settings(1, 1, 6, 0), b"AAA", b"AAA"), 6);
+}
+
+#[test]
+fn the_tie_between_columns_decides_the_start() {
+    // With b 3, (1,3) and (3,1) are left extensions of (3,4) with weight 1; the
+    // smaller column wins, though its row is the greater.
+    let tie = example(settings(1, 2, 5, 0), b"ACG", b"GTAG");
+    tie.gives(done([2, 3, 3, 1]), &[[3, 3, 1, 1, 1], [1, 3, 3, 4, 2]]);
+    let tie = example(settings(1, 3, 5, 0), b"ACG", b"GTAG");
+    tie.gives(done([2, 3, 3, 2]), &[[3, 3, 1, 1, 1], [3, 3, 1, 4, 2]]);
+}
+
+const P1_INPUT: &str = "010702000200080000EC\n020312248045\n030312448024\n0400FC\n";
+
+#[test]
+fn p1_through_chain() {
+    let output = "100A00010005000100050003D7\n\
+                  11140000000100000003000000020000000000000002D3\n";
+    assert_eq!(chain(P1_INPUT.as_bytes()), output.as_bytes());
+}
+
+#[test]
+fn p1_through_chain_with_k_0() {
+    let input = P1_INPUT.replace("010702000200080000EC", "010700000200080000EE");
+    assert_eq!(chain(input.as_bytes()), b"1F06010000000000DA\n");
+}
