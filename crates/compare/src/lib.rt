@@ -24,7 +24,7 @@ pub fn compare(
     let mut firsts = [0u32; 16384];
     let mut nexts = [0u32; 16384];
     prepare::match_up(settings, first, second, &mut firsts, &mut nexts);
-    let rows = kmers::places(first.len(), prepare::wide(settings.k));
+    let rows = kmers::places(first.len(), casts::wide(settings.k));
     jobs::compare_matches(&firsts[..rows], &nexts, settings, work, list)
 }
 
@@ -47,8 +47,8 @@ pub fn stopped(
     let mut firsts = [0u32; 16384];
     let mut nexts = [0u32; 16384];
     prepare::match_up(settings, first, second, &mut firsts, &mut nexts);
-    let rows = kmers::places(first.len(), prepare::wide(settings.k));
-    jobs::stop_matches(&firsts[..rows], &nexts, settings, work, prepare::wide(row))
+    let rows = kmers::places(first.len(), casts::wide(settings.k));
+    jobs::stop_matches(&firsts[..rows], &nexts, settings, work, casts::wide(row))
 }
 
 // How many records of work room a job needs: W, or 4,294,967,296 plus the refusal number 1 to 6.
@@ -64,7 +64,7 @@ pub fn need(settings: Settings, first: &[u8], second: &[u8]) -> u64
     let mut firsts = [0u32; 16384];
     let mut nexts = [0u32; 16384];
     prepare::match_up(settings, first, second, &mut firsts, &mut nexts);
-    let rows = kmers::places(first.len(), prepare::wide(settings.k));
-    let counts = tally::count_matches(&firsts[..rows], &nexts, prepare::wide(settings.b));
+    let rows = kmers::places(first.len(), casts::wide(settings.k));
+    let counts = tally::count_matches(&firsts[..rows], &nexts, casts::wide(settings.b));
     counts.widest as u64
 }

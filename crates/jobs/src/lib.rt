@@ -58,7 +58,7 @@ pub fn compare_matches(
     requires { ⌜ Walked (now firsts) (now nexts) c ⌝ }
     ensures { λ r. ⌜ ComparesMatches (now (firsts .entry)) (now (nexts .entry)) c (now (work .entry)) (now (list .entry)) (now (work .exit)) (now (list .exit)) r ⌝ }
 {
-    let b = prepare::wide(c.b);
+    let b = casts::wide(c.b);
     let counts = tally::count_matches(firsts, nexts, b);
     let widest = counts.widest;
     if rooms::record_count(work) < widest {
@@ -122,7 +122,7 @@ fn hold(
         rooms::zero_all(work);
         return 0;
     }
-    let last = before_run(row, prepare::wide(c.b));
+    let last = before_run(row, casts::wide(c.b));
     let before = tally::matches_before(firsts, nexts, last);
     let ring = ring_from(widest, before);
     sweep::hold_run(&firsts[..row], nexts, work, ring, c)
@@ -139,7 +139,7 @@ pub fn stop_matches(
     requires { ⌜ Walked (now firsts) (now nexts) c ⌝ }
     ensures { λ r. ⌜ StopsMatches (now (firsts .entry)) (now (nexts .entry)) c row (now (work .entry)) (now (work .exit)) r ⌝ }
 {
-    let b = prepare::wide(c.b);
+    let b = casts::wide(c.b);
     let counts = tally::count_matches(firsts, nexts, b);
     let widest = counts.widest;
     let holds = rooms::record_count(work);

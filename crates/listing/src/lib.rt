@@ -36,7 +36,7 @@ fn is_open(room: &[u32], latest: &[u32], ring: Ring, t: usize, x: Record, b: usi
     ensures { λ r. ⌜ r ≡ someAfter (laterIn (now (room .entry)) (now (latest .entry)) ring t (x .cell .row)) (x .cell .column) b ⌝ }
 {
     let row = x.cell.row;
-    let j = predecessors::wide(x.cell.column);
+    let j = casts::wide(x.cell.column);
     let mut n: usize = 0;
     while n < b {
         n += 1;
@@ -73,7 +73,7 @@ fn is_listed(room: &[u32], latest: &[u32], ring: Ring, t: usize, x: Record, c: S
     if span(x.cell.column, c.k, x.start.column) < m {
         return false;
     }
-    let b = predecessors::wide(c.b);
+    let b = casts::wide(c.b);
     if is_open(room, latest, ring, t, x, b) {
         return false;
     }
@@ -131,12 +131,12 @@ pub fn release(
     requires { ⌜ ReleaseSafe (now room) ring tail head c listed ⌝ }
     ensures { λ r. ⌜ ReleaseDone c i (now (room .entry)) (now (latest .entry)) ring tail head (now (list .entry)) listed (now (list .exit)) r ⌝ }
 {
-    let b = predecessors::wide(c.b);
+    let b = casts::wide(c.b);
     let mut t = tail;
     let mut n = listed;
     while t < head {
         let x = rooms::record_at(room, predecessors::slot(ring, t + 1));
-        if i <= predecessors::wide(x.cell.row) + b {
+        if i <= casts::wide(x.cell.row) + b {
             return Released { tail: t, listed: n };
         }
         n = list_record(room, latest, ring, t, x, c, list, n);

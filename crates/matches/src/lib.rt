@@ -18,7 +18,7 @@ fn find_nexts(second: &[u64], own: &[u32], tail: &mut [u32], nexts: &mut [u32])
     let mut k = second.len();
     while 0 < k {
         k -= 1;
-        let e = order::wide(own[k]);
+        let e = casts::wide(own[k]);
         if e == 0 {
             nexts[k] = 0;
         } else {
@@ -40,7 +40,7 @@ fn tally(own: &[u32], n: usize, count: &mut [u32])
 {
     let mut i = 0;
     while i < n {
-        let e = order::wide(own[i]);
+        let e = casts::wide(own[i]);
         i += 1;
         if 0 < e {
             let q = e - 1;
@@ -59,7 +59,7 @@ fn cap(count: &[u32], a: u32, firsts: &mut [u32], n: usize)
     let mut j = 0;
     while j < n {
         let i = j;
-        let e = order::wide(firsts[i]);
+        let e = casts::wide(firsts[i]);
         j += 1;
         if 0 < e {
             let q = e - 1;

@@ -18,12 +18,6 @@ pub struct Ring {
     pub origin: usize,
 }
 
-pub fn wide(x: u32) -> usize
-    ensures { λ r. ⌜ (r ≡ x) × (r < 4294967296) ⌝ }
-{
-    x as usize
-}
-
 // The slot of the record with running number n - 1.
 pub fn slot(ring: Ring, n: usize) -> usize
     requires { ⌜ RingFits ring ⌝ }

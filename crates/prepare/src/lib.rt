@@ -7,12 +7,6 @@ ghost use lib.ListN.{length};
 ghost use Rattle.rules.specs.Answers.{refusal, outside, checked};
 ghost use Rattle.prepare.specs.Prepared.{Accepted, Blank, Matched};
 
-pub fn wide(x: u32) -> usize
-    ensures { λ r. ⌜ r ≡ x ⌝ }
-{
-    x as usize
-}
-
 // The answer of a refusal: all four tallies are 0. Number 0 refuses nothing.
 pub fn refuse(number: u64, sequence: u64, detail: u64) -> Answer
     ensures { λ r. ⌜ r ≡ refusal number sequence detail ⌝ }
@@ -78,7 +72,7 @@ pub fn match_up(c: Settings, first: &[u8], second: &[u8], firsts: &mut [u32], ne
     requires { ⌜ Blank (now nexts) ⌝ }
     ensures { λ _. ⌜ Matched c (now (first .entry)) (now (second .entry)) (now (firsts .exit)) (now (nexts .exit)) ⌝ }
 {
-    let k = wide(c.k);
+    let k = casts::wide(c.k);
     let mut first_codes = [0u64; 16384];
     kmers::fill_codes(first, k, &mut first_codes);
     let mut second_codes = [0u64; 16384];

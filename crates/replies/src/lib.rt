@@ -15,13 +15,6 @@ ghost use Rattle.frames.specs.Kinds.{entryLine, refusedLine, refusedFits};
 ghost use Rattle.replies.specs.Output.{jobOutput, inFront};
 ghost use Rattle.replies.specs.Entries.{entryIn, entriesIn, EntriesSafe, ListingSafe, listingLines};
 
-// A cast that asks nothing of its caller.
-fn long(x: u32) -> u64
-    ensures { λ r. ⌜ r ≡ x ⌝ }
-{
-    x as u64
-}
-
 // The entry behind n others.
 fn entry_at(list: &[u32], n: usize) -> Entry
     requires { ⌜ 5 * n + 5 ≤ length (now list) ⌝ }
@@ -29,17 +22,17 @@ fn entry_at(list: &[u32], n: usize) -> Entry
 {
     let at = 5 * n;
     let first = Span {
-        start: long(list[at]),
-        end: long(list[at + 1]),
+        start: casts::long(list[at]),
+        end: casts::long(list[at + 1]),
     };
     let second = Span {
-        start: long(list[at + 2]),
-        end: long(list[at + 3]),
+        start: casts::long(list[at + 2]),
+        end: casts::long(list[at + 3]),
     };
     Entry {
         first,
         second,
-        weight: long(list[at + 4]),
+        weight: casts::long(list[at + 4]),
     }
 }
 

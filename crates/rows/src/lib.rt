@@ -90,7 +90,7 @@ pub fn store_row(
         near = h;
         column = j;
         let p = j - 1;
-        j = predecessors::wide(nexts[p]);
+        j = casts::wide(nexts[p]);
     }
     h
 }

@@ -39,14 +39,14 @@ fn sweep(
     requires { ⌜ NoneLatest (now latest) ⌝ }
     ensures { λ r. ⌜ SweepDone (now (firsts .entry)) (now (nexts .entry)) ring c (now (room .exit)) (now (latest .exit)) (now (list .exit)) r ⌝ }
 {
-    let b = predecessors::wide(c.b);
+    let b = casts::wide(c.b);
     let mut tail: usize = 0;
     let mut head: usize = 0;
     let mut from: usize = 0;
     let mut listed: usize = 0;
     let mut k: usize = 0;
     while k < firsts.len() {
-        let start = predecessors::wide(firsts[k]);
+        let start = casts::wide(firsts[k]);
         k += 1;
         let released = listing::release(room, latest, ring, tail, head, c, k, list, listed);
         tail = released.tail;
@@ -73,7 +73,7 @@ pub fn list_all(
     // one more than the running number of each column's latest record: numbers, and no records
     let mut latest = [0u32; 16385];
     let swept = sweep(firsts, nexts, room, &mut latest, ring, c, list);
-    let last = firsts.len() + predecessors::wide(c.b) + 1;
+    let last = firsts.len() + casts::wide(c.b) + 1;
     let released = listing::release(
         room,
         &latest,

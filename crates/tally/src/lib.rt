@@ -7,12 +7,6 @@ ghost use Rattle.tally.specs.Tallies.{RowSized, MatchedBefore, Leaves, C
 ghost use Rattle.matches.specs.Walks.{NextsSafe, WalkSafe};
 ghost use Rattle.tally.specs.Columns.{sumFrom, RowReleased, Released, RowAdded};
 
-fn wide(x: u32) -> usize
-    ensures { λ r. ⌜ r ≡ x ⌝ }
-{
-    x as usize
-}
-
 fn larger(x: usize, y: usize) -> usize
     ensures { λ r. ⌜ r ≡ max x y ⌝ }
 {
@@ -36,7 +30,7 @@ pub fn row_size(nexts: &[u32], start: usize) -> usize
     let mut j = start;
     while j != 0 {
         size += 1;
-        j = wide(nexts[j - 1]);
+        j = casts::wide(nexts[j - 1]);
     }
     size
 }
@@ -50,7 +44,7 @@ pub fn matches_before(firsts: &[u32], nexts: &[u32], rows: usize) -> usize
     let mut matches: usize = 0;
     let mut p: usize = 0;
     while p < rows {
-        matches += row_size(nexts, wide(firsts[p]));
+        matches += row_size(nexts, casts::wide(firsts[p]));
         p += 1;
     }
     matches
@@ -65,7 +59,7 @@ fn leaving(firsts: &[u32], nexts: &[u32], b: usize, p: usize) -> usize
     if p <= b {
         return 0;
     }
-    row_size(nexts, wide(firsts[p - b - 1]))
+    row_size(nexts, casts::wide(firsts[p - b - 1]))
 }
 
 pub struct Counts {
@@ -85,19 +79,13 @@ pub fn count_matches(firsts: &[u32], nexts: &[u32], b: usize) -> Counts
     let mut widest: usize = 0;
     let mut p: usize = 0;
     while p < firsts.len() {
-        let size = row_size(nexts, wide(firsts[p]));
+        let size = row_size(nexts, casts::wide(firsts[p]));
         matches += size;
         run = minus(run + size, leaving(firsts, nexts, b, p));
         widest = larger(widest, run);
         p += 1;
     }
     Counts { matches, widest }
-}
-
-fn long(x: u32) -> u64
-    ensures { λ r. ⌜ (r ≡ x) × (r < 4294967296) ⌝ }
-{
-    x as u64
 }
 
 // x - 1, or 0.
@@ -115,7 +103,7 @@ fn sum(counts: &[u32; 16385], lo: usize, hi: usize) -> u64
     let mut total: u64 = 0;
     let mut q = lo;
     while q < hi {
-        total += long(counts[q]);
+        total += casts::long(counts[q]);
         q += 1;
     }
     total
@@ -130,7 +118,7 @@ fn release_row(nexts: &[u32], start: usize, counts: &mut [u32; 16385])
     let mut j = start;
     while j != 0 {
         counts[j] = one_less(counts[j]);
-        j = wide(nexts[j - 1]);
+        j = casts::wide(nexts[j - 1]);
     }
 }
 
@@ -143,7 +131,7 @@ fn release(firsts: &[u32], nexts: &[u32], b: usize, p: usize, counts: &mut [u32;
     if p <= b {
         return;
     }
-    release_row(nexts, wide(firsts[p - b - 1]), counts);
+    release_row(nexts, casts::wide(firsts[p - b - 1]), counts);
 }
 
 // The links with those of a row's matches added, which are counted on the way: the left extensions of a match in column j are the matches that columns
@@ -159,7 +147,7 @@ fn add_row(nexts: &[u32], start: usize, b: usize, counts: &mut [u32; 16385], lin
     while j != 0 {
         total = std::num::wrapping_add_u64(total, sum(counts, minus(j, b), j + 1));
         counts[j] = std::num::wrapping_add_u32(counts[j], 1);
-        j = wide(nexts[j - 1]);
+        j = casts::wide(nexts[j - 1]);
     }
     total
 }
@@ -174,7 +162,7 @@ pub fn count_links(firsts: &[u32], nexts: &[u32], b: usize) -> u64
     let mut p: usize = 0;
     while p < firsts.len() {
         release(firsts, nexts, b, p, &mut counts);
-        links = add_row(nexts, wide(firsts[p]), b, &mut counts, links);
+        links = add_row(nexts, casts::wide(firsts[p]), b, &mut counts, links);
         p += 1;
     }
     links

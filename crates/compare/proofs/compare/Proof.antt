@@ -30,7 +30,7 @@ check-requires c κs = search needs
 returns : tie.Need-returns
 returns c =
     let h = c .before .before in
-    let s = c .before .before .before .before .before .before .before in
+    let s = h .before .before .before .before .before in
     let a = s .args in
     let e = h .check .ensures in
     let o = outcome-of e ∙ compare-refused (a .settings) (a .first .now) (a .second .now) (a .work .now) (a .list .now) (λ z. c .if1 .taken (ap (λ (x : Answer). x .number) e ∙ z)) in
@@ -45,8 +45,8 @@ slice-aggregate-match-up-2 c = search needs
 match-up-requires : tie.Need-match-up-requires
 match-up-requires c κs =
     let q = c .before .before in
-    let h = c .before .before .before .before in
-    let s = c .before .before .before .before .before .before .before .before .before in
+    let h = q .before .before in
+    let s = h .before .before .before .before .before in
     let a = s .args in
     let e0 = passed (h .check .result) (a .settings) (a .first .now) (a .second .now) (h .check .ensures) (q .if1 .left) in
     let ok = accepted (a .settings) (a .first .now) (a .second .now) e0 in
@@ -62,28 +62,28 @@ array-share-prefix-firsts : tie.Need-array-share-prefix-firsts
 array-share-prefix-firsts c =
     let p = c in
     let w = c .before in
-    let m = c .before .before .before .before in
-    let q = c .before .before .before .before .before .before .before in
-    let h = c .before .before .before .before .before .before .before .before .before in
-    let s = c .before .before .before .before .before .before .before .before .before .before .before .before .before .before in
+    let m = w .before .before .before in
+    let q = m .before .before .before in
+    let h = q .before .before in
+    let s = h .before .before .before .before .before in
     let a = s .args in
     let e0 = passed (h .check .result) (a .settings) (a .first .now) (a .second .now) (h .check .ensures) (q .if1 .left) in
     let ok = accepted (a .settings) (a .first .now) (a .second .now) e0 in
-    let er = rows-are (p .places .result) (w .wide .result) (a .settings) (a .first .now) (p .places .ensures) (w .wide .ensures) in
+    let er = rows-are (p .places .result) (w .wide .result) (a .settings) (a .first .now) (p .places .ensures) (w .wide .ensures .0) in
     rows-few (a .settings) (a .first .now) (a .second .now) (m .match-up .last .1 .1 .1 .0) (m .match-up .last .1 .1 .1 .1 .0) ok (m .match-up .ensures) (p .places .result) er
 
 slice-aggregate-compare-matches : tie.Need-slice-aggregate-compare-matches
 slice-aggregate-compare-matches c =
     let p = c .before in
-    let w = c .before .before in
-    let m = c .before .before .before .before .before in
-    let q = c .before .before .before .before .before .before .before .before in
-    let h = c .before .before .before .before .before .before .before .before .before .before in
-    let s = c .before .before .before .before .before .before .before .before .before .before .before .before .before .before .before in
+    let w = p .before in
+    let m = w .before .before .before in
+    let q = m .before .before .before in
+    let h = q .before .before in
+    let s = h .before .before .before .before .before in
     let a = s .args in
     let e0 = passed (h .check .result) (a .settings) (a .first .now) (a .second .now) (h .check .ensures) (q .if1 .left) in
     let ok = accepted (a .settings) (a .first .now) (a .second .now) e0 in
-    let er = rows-are (p .places .result) (w .wide .result) (a .settings) (a .first .now) (p .places .ensures) (w .wide .ensures) in
+    let er = rows-are (p .places .result) (w .wide .result) (a .settings) (a .first .now) (p .places .ensures) (w .wide .ensures .0) in
     front-long (a .settings) (a .first .now) (a .second .now) (m .match-up .last .1 .1 .1 .0) (m .match-up .last .1 .1 .1 .1 .0) ok (m .match-up .ensures) (p .places .result) er
 
 slice-aggregate-compare-matches-2 : tie.Need-slice-aggregate-compare-matches-2
@@ -92,15 +92,15 @@ slice-aggregate-compare-matches-2 c = search needs
 compare-matches-requires : tie.Need-compare-matches-requires
 compare-matches-requires c κs =
     let p = c .before .before .before .before in
-    let w = c .before .before .before .before .before in
-    let m = c .before .before .before .before .before .before .before .before in
-    let q = c .before .before .before .before .before .before .before .before .before .before .before in
-    let h = c .before .before .before .before .before .before .before .before .before .before .before .before .before in
-    let s = c .before .before .before .before .before .before .before .before .before .before .before .before .before .before .before .before .before .before in
+    let w = p .before in
+    let m = w .before .before .before in
+    let q = m .before .before .before in
+    let h = q .before .before in
+    let s = h .before .before .before .before .before in
     let a = s .args in
     let e0 = passed (h .check .result) (a .settings) (a .first .now) (a .second .now) (h .check .ensures) (q .if1 .left) in
     let ok = accepted (a .settings) (a .first .now) (a .second .now) e0 in
-    let er = rows-are (p .places .result) (w .wide .result) (a .settings) (a .first .now) (p .places .ensures) (w .wide .ensures) in
+    let er = rows-are (p .places .result) (w .wide .result) (a .settings) (a .first .now) (p .places .ensures) (w .wide .ensures .0) in
     walked (a .settings) (a .first .now) (a .second .now) (m .match-up .last .1 .1 .1 .0) (m .match-up .last .1 .1 .1 .1 .0) ok (m .match-up .ensures) (p .places .result) er
 
 same-length : tie.Need-same-length
@@ -112,16 +112,16 @@ same-length-2 c = search needs
 returns-2 : tie.Need-returns-2
 returns-2 c =
     let d = c .before .before .before .before in
-    let p = c .before .before .before .before .before .before .before .before .before in
-    let w = c .before .before .before .before .before .before .before .before .before .before in
-    let m = c .before .before .before .before .before .before .before .before .before .before .before .before .before in
-    let q = c .before .before .before .before .before .before .before .before .before .before .before .before .before .before .before .before in
-    let h = c .before .before .before .before .before .before .before .before .before .before .before .before .before .before .before .before .before .before in
-    let s = c .before .before .before .before .before .before .before .before .before .before .before .before .before .before .before .before .before .before .before .before .before .before .before in
+    let p = d .before .before .before .before .before in
+    let w = p .before in
+    let m = w .before .before .before in
+    let q = m .before .before .before in
+    let h = q .before .before in
+    let s = h .before .before .before .before .before in
     let a = s .args in
     let e0 = passed (h .check .result) (a .settings) (a .first .now) (a .second .now) (h .check .ensures) (q .if1 .left) in
     let ok = accepted (a .settings) (a .first .now) (a .second .now) e0 in
-    let er = rows-are (p .places .result) (w .wide .result) (a .settings) (a .first .now) (p .places .ensures) (w .wide .ensures) in
+    let er = rows-are (p .places .result) (w .wide .result) (a .settings) (a .first .now) (p .places .ensures) (w .wide .ensures .0) in
     let o = compare-accepted (a .settings) (a .first .now) (a .second .now) (m .match-up .last .1 .1 .1 .0) (m .match-up .last .1 .1 .1 .1 .0) ok (m .match-up .ensures) (p .places .result) er (a .work .now) (a .list .now) (d .compare-matches .last .1 .1 .1 .0) (d .compare-matches .last .1 .1 .1 .1 .0) (d .compare-matches .result) e0 (d .compare-matches .ensures) in
     (ap (λ (x : Outcome). x .answer) o, (ap (λ (x : Outcome). x .work) o, ap (λ (x : Outcome). x .list) o))
 

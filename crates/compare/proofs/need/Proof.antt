@@ -30,14 +30,14 @@ check-requires c κs = search needs
 add-result : tie.Need-add-result
 add-result c =
     let h = c .before in
-    let s = c .before .before .before .before in
+    let s = h .before .before .before in
     let a = s .args in
     omega (arith, ap (λ (x : Answer). x .number) (h .check .ensures), number-small (a .settings) (a .first .now) (a .second .now))
 
 returns : tie.Need-returns
 returns c =
     let h = c .before in
-    let s = c .before .before .before .before in
+    let s = h .before .before .before in
     let a = s .args in
     need-refused (a .settings) (a .first .now) (a .second .now) (h .check .result .number) (ap (λ (x : Answer). x .number) (h .check .ensures)) (c .if1 .taken)
 
@@ -50,8 +50,8 @@ slice-aggregate-match-up-2 c = search needs
 match-up-requires : tie.Need-match-up-requires
 match-up-requires c κs =
     let q = c .before .before in
-    let h = c .before .before .before in
-    let s = c .before .before .before .before .before .before in
+    let h = q .before in
+    let s = h .before .before .before in
     let a = s .args in
     let e0 = passed (h .check .result) (a .settings) (a .first .now) (a .second .now) (h .check .ensures) (q .if1 .left) in
     let ok = accepted (a .settings) (a .first .now) (a .second .now) e0 in
@@ -67,28 +67,28 @@ array-share-prefix-firsts : tie.Need-array-share-prefix-firsts
 array-share-prefix-firsts c =
     let p = c in
     let w = c .before in
-    let m = c .before .before .before .before in
-    let q = c .before .before .before .before .before .before .before in
-    let h = c .before .before .before .before .before .before .before .before in
-    let s = c .before .before .before .before .before .before .before .before .before .before .before in
+    let m = w .before .before .before in
+    let q = m .before .before .before in
+    let h = q .before in
+    let s = h .before .before .before in
     let a = s .args in
     let e0 = passed (h .check .result) (a .settings) (a .first .now) (a .second .now) (h .check .ensures) (q .if1 .left) in
     let ok = accepted (a .settings) (a .first .now) (a .second .now) e0 in
-    let er = rows-are (p .places .result) (w .wide .result) (a .settings) (a .first .now) (p .places .ensures) (w .wide .ensures) in
+    let er = rows-are (p .places .result) (w .wide .result) (a .settings) (a .first .now) (p .places .ensures) (w .wide .ensures .0) in
     rows-few (a .settings) (a .first .now) (a .second .now) (m .match-up .last .1 .1 .1 .0) (m .match-up .last .1 .1 .1 .1 .0) ok (m .match-up .ensures) (p .places .result) er
 
 slice-aggregate-count-matches : tie.Need-slice-aggregate-count-matches
 slice-aggregate-count-matches c =
     let p = c .before in
-    let w = c .before .before in
-    let m = c .before .before .before .before .before in
-    let q = c .before .before .before .before .before .before .before .before in
-    let h = c .before .before .before .before .before .before .before .before .before in
-    let s = c .before .before .before .before .before .before .before .before .before .before .before .before in
+    let w = p .before in
+    let m = w .before .before .before in
+    let q = m .before .before .before in
+    let h = q .before in
+    let s = h .before .before .before in
     let a = s .args in
     let e0 = passed (h .check .result) (a .settings) (a .first .now) (a .second .now) (h .check .ensures) (q .if1 .left) in
     let ok = accepted (a .settings) (a .first .now) (a .second .now) e0 in
-    let er = rows-are (p .places .result) (w .wide .result) (a .settings) (a .first .now) (p .places .ensures) (w .wide .ensures) in
+    let er = rows-are (p .places .result) (w .wide .result) (a .settings) (a .first .now) (p .places .ensures) (w .wide .ensures .0) in
     front-long (a .settings) (a .first .now) (a .second .now) (m .match-up .last .1 .1 .1 .0) (m .match-up .last .1 .1 .1 .1 .0) ok (m .match-up .ensures) (p .places .result) er
 
 slice-aggregate-count-matches-2 : tie.Need-slice-aggregate-count-matches-2
@@ -100,31 +100,31 @@ wide-requires-2 c κs = search needs
 count-matches-requires : tie.Need-count-matches-requires
 count-matches-requires c κs =
     let p = c .before .before .before in
-    let w = c .before .before .before .before in
-    let m = c .before .before .before .before .before .before .before in
-    let q = c .before .before .before .before .before .before .before .before .before .before in
-    let h = c .before .before .before .before .before .before .before .before .before .before .before in
-    let s = c .before .before .before .before .before .before .before .before .before .before .before .before .before .before in
+    let w = p .before in
+    let m = w .before .before .before in
+    let q = m .before .before .before in
+    let h = q .before in
+    let s = h .before .before .before in
     let a = s .args in
     let e0 = passed (h .check .result) (a .settings) (a .first .now) (a .second .now) (h .check .ensures) (q .if1 .left) in
     let ok = accepted (a .settings) (a .first .now) (a .second .now) e0 in
-    let er = rows-are (p .places .result) (w .wide .result) (a .settings) (a .first .now) (p .places .ensures) (w .wide .ensures) in
+    let er = rows-are (p .places .result) (w .wide .result) (a .settings) (a .first .now) (p .places .ensures) (w .wide .ensures .0) in
     front-walks (a .settings) (a .first .now) (a .second .now) (m .match-up .last .1 .1 .1 .0) (m .match-up .last .1 .1 .1 .1 .0) ok (m .match-up .ensures) (p .places .result) er
 
 returns-2 : tie.Need-returns-2
 returns-2 c =
     let r = c .before in
-    let p = c .before .before .before .before in
-    let w = c .before .before .before .before .before in
-    let m = c .before .before .before .before .before .before .before .before in
-    let q = c .before .before .before .before .before .before .before .before .before .before .before in
-    let h = c .before .before .before .before .before .before .before .before .before .before .before .before in
-    let s = c .before .before .before .before .before .before .before .before .before .before .before .before .before .before .before in
+    let p = r .before .before .before in
+    let w = p .before in
+    let m = w .before .before .before in
+    let q = m .before .before .before in
+    let h = q .before in
+    let s = h .before .before .before in
     let a = s .args in
     let e0 = passed (h .check .result) (a .settings) (a .first .now) (a .second .now) (h .check .ensures) (q .if1 .left) in
     let ok = accepted (a .settings) (a .first .now) (a .second .now) e0 in
-    let er = rows-are (p .places .result) (w .wide .result) (a .settings) (a .first .now) (p .places .ensures) (w .wide .ensures) in
-    need-accepted (a .settings) (a .first .now) (a .second .now) (m .match-up .last .1 .1 .1 .0) (m .match-up .last .1 .1 .1 .1 .0) ok (m .match-up .ensures) (p .places .result) er (r .wide2 .result) (c .count-matches .result) (r .wide2 .ensures) e0 (c .count-matches .ensures)
+    let er = rows-are (p .places .result) (w .wide .result) (a .settings) (a .first .now) (p .places .ensures) (w .wide .ensures .0) in
+    need-accepted (a .settings) (a .first .now) (a .second .now) (m .match-up .last .1 .1 .1 .0) (m .match-up .last .1 .1 .1 .1 .0) ok (m .match-up .ensures) (p .places .result) er (r .wide2 .result) (c .count-matches .result) (r .wide2 .ensures .0) e0 (c .count-matches .ensures)
 
 pub need-spec : {M : Type 1} → statement M
 need-spec =

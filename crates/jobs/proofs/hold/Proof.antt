@@ -51,10 +51,10 @@ returns-2 c =
     let r = h .before .before .before in
     let m = r .before in
     let p = m .before in
-    let s = r .before .before .before .before .before .before .before .before in
+    let s = p .before .before .before .before .before .before in
     let a = s .args in
     holds-swept (a .firsts .now) (a .nexts .now) (a .work .now) (h .hold-run .last .1 .1 .0) (a .c) (a .widest) (a .row) (p .before-run .result) (m .matches-before .result) (h .hold-run .result) (r .ring-from .result) (s .pre .1 .1 .1)
-    (p .before-run .ensures ∙ ap (λ (b : ℕ). a .row - b - 1) (p .before .wide .ensures)) (m .matches-before .ensures) (r .ring-from .ensures) (h .hold-run .ensures)
+    (p .before-run .ensures ∙ ap (λ (b : ℕ). a .row - b - 1) (p .before .wide .ensures .0)) (m .matches-before .ensures) (r .ring-from .ensures) (h .hold-run .ensures)
 
 pub hold-spec : {M : Type 1} → statement M
 hold-spec =

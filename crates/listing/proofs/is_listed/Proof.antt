@@ -46,7 +46,7 @@ returns-4 c =
     let w = c .before .before in
     let e = w .before in
     let d = e .before .before in
-    let a = w .before .before .before .before .before .before .before .before .args in
+    let a = d .before .before .before .before .before .args in
     sym (all-pass (a .room .now) (a .latest .now) (a .ring) (a .t) (a .x) (a .c) (ap (someAfter (laterIn (a .room .now) (a .latest .now) (a .ring) (a .t) (a .x .cell .row)) (a .x .cell .column)) (sym (w .wide .ensures .0)) ∙ sym (c .before .is-open .ensures) ∙ c .if3 .left)
     (omega (arith, d .if1 .left, d .before .span .ensures)) (omega (arith, e .if2 .left, e .before .span2 .ensures)))
 

@@ -19,7 +19,7 @@ owner-there : (c : tie.Then1 Inv-loop μ-loop)
 owner-there c =
     let l = c .before .before .before .before in
     let s = l .before .before .before in
-    capped-in (c .before .wide .ensures) (l .loop .inv .1) (c .before .before .before .loop-test .taken) (s .pre .1)
+    capped-in (c .before .wide .ensures .0) (l .loop .inv .1) (c .before .before .before .loop-test .taken) (s .pre .1)
 
 loop-holds : tie.Need-loop-holds Inv-loop μ-loop
 loop-holds c = (search needs, capped-start)
@@ -58,7 +58,7 @@ loop-again : tie.Need-loop-again Inv-loop μ-loop
 loop-again c =
     let read = c .before .before .before in
     let l = read .before .before .before in
-    (search needs, capped-unused (read .wide .ensures) (l .loop .inv .1) (omega arith) (c .before .before .if1 .taken) (c .if2 .taken))
+    (search needs, capped-unused (read .wide .ensures .0) (l .loop .inv .1) (omega arith) (c .before .before .if1 .taken) (c .if2 .taken))
 
 loop-less-2 : tie.Need-loop-less-2 Inv-loop μ-loop
 loop-less-2 c = search needs
@@ -66,13 +66,13 @@ loop-less-2 c = search needs
 loop-again-2 : tie.Need-loop-again-2 Inv-loop μ-loop
 loop-again-2 c =
     let l = c .before .before .before .before .before .before in
-    (search needs, capped-used (c .before .before .before .wide .ensures) (l .loop .inv .1) (c .if2 .left))
+    (search needs, capped-used (c .before .before .before .wide .ensures .0) (l .loop .inv .1) (c .if2 .left))
 
 loop-less-3 : tie.Need-loop-less-3 Inv-loop μ-loop
 loop-less-3 c = search needs
 
 loop-again-3 : tie.Need-loop-again-3 Inv-loop μ-loop
-loop-again-3 c = (search needs, capped-none (c .before .wide .ensures) (c .before .before .before .before .loop .inv .1) (c .if1 .left))
+loop-again-3 c = (search needs, capped-none (c .before .wide .ensures .0) (c .before .before .before .before .loop .inv .1) (c .if1 .left))
 
 same-length : tie.Need-same-length Inv-loop μ-loop
 same-length c = c .before .loop .inv .1 .long

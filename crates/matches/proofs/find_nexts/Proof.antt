@@ -19,7 +19,7 @@ owner-there c =
     let read = c .before in
     let l = read .before .before .before in
     let room = l .before .before .before .before .before .pre .1 .1 in
-    owner-in (l .loop .k - 1) (omega arith) (room .0) (room .1 .0) (room .1 .1 .0) (read .wide .ensures) (l .loop .inv) (c .if1 .left)
+    owner-in (l .loop .k - 1) (omega arith) (room .0) (room .1 .0) (room .1 .1 .0) (read .wide .ensures .0) (l .loop .inv) (c .if1 .left)
 
 loop-holds : tie.Need-loop-holds Inv-loop μ-loop
 loop-holds c = linking-start (c .before .before .before .before .pre .1 .1 .1 .1 .1)
@@ -50,7 +50,7 @@ loop-again c =
     let read = c .before in
     let l = read .before .before .before in
     let room = l .before .before .before .before .before .pre .1 .1 in
-    linking-skip (l .loop .k - 1) (omega arith) (room .0) (room .1 .0) (room .1 .1 .0) (read .wide .ensures) (l .loop .inv) (c .if1 .taken)
+    linking-skip (l .loop .k - 1) (omega arith) (room .0) (room .1 .0) (room .1 .1 .0) (read .wide .ensures .0) (l .loop .inv) (c .if1 .taken)
 
 sub-q : tie.Need-sub-q Inv-loop μ-loop
 sub-q c = search needs
@@ -87,7 +87,7 @@ loop-again-2 c =
     let read = c .before .before in
     let l = read .before .before .before in
     let room = l .before .before .before .before .before .pre .1 .1 in
-    linking-next (l .loop .k - 1) (omega arith) (room .0) (room .1 .0) (room .1 .1 .0) (read .wide .ensures) (l .loop .inv) (c .before .if1 .left)
+    linking-next (l .loop .k - 1) (omega arith) (room .0) (room .1 .0) (room .1 .1 .0) (read .wide .ensures .0) (l .loop .inv) (c .before .if1 .left)
 
 same-length : tie.Need-same-length Inv-loop μ-loop
 same-length c = c .before .loop .inv .kept

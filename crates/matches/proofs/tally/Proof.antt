@@ -20,7 +20,7 @@ owner-there c =
     let read = c .before in
     let l = read .before .before .before in
     let bound = l .before .before .before .pre .1 .1 .0 in
-    owner-counted (read .wide .ensures) (l .loop .inv .1) (c .if1 .taken) (read .before .before .loop-test .taken) bound
+    owner-counted (read .wide .ensures .0) (l .loop .inv .1) (c .if1 .taken) (read .before .before .loop-test .taken) bound
 
 loop-holds : tie.Need-loop-holds Inv-loop μ-loop
 loop-holds c = (search needs, tallied-start)
@@ -51,7 +51,7 @@ add-count c =
     let read = c .before .before in
     let l = read .before .before .before in
     let s = l .before .before .before .pre .1 .1 in
-    omega (arith, count-small (read .wide .ensures) (l .loop .inv .1) (c .before .if1 .taken) (read .before .before .loop-test .taken) (s .0) (s .1))
+    omega (arith, count-small (read .wide .ensures .0) (l .loop .inv .1) (c .before .if1 .taken) (read .before .before .loop-test .taken) (s .0) (s .1))
 
 mul-count : tie.Need-mul-count Inv-loop μ-loop
 mul-count c = omega (arith, owner-there (c .before), c .before .before .before .before .before .before .before .before .good)
@@ -67,13 +67,13 @@ loop-again c =
     let read = c .before .before in
     let l = read .before .before .before in
     let bound = l .before .before .before .pre .1 .1 .0 in
-    (search needs, tallied-next (read .wide .ensures) (l .loop .inv .1) (c .before .if1 .taken) (read .before .before .loop-test .taken) bound)
+    (search needs, tallied-next (read .wide .ensures .0) (l .loop .inv .1) (c .before .if1 .taken) (read .before .before .loop-test .taken) bound)
 
 loop-less-2 : tie.Need-loop-less-2 Inv-loop μ-loop
 loop-less-2 c = search needs
 
 loop-again-2 : tie.Need-loop-again-2 Inv-loop μ-loop
-loop-again-2 c = (search needs, tallied-skip (c .before .wide .ensures) (c .before .before .before .before .loop .inv .1) (c .if1 .left))
+loop-again-2 c = (search needs, tallied-skip (c .before .wide .ensures .0) (c .before .before .before .before .loop .inv .1) (c .if1 .left))
 
 same-length : tie.Need-same-length Inv-loop μ-loop
 same-length c = c .before .loop .inv .1 .long

@@ -27,7 +27,7 @@ wide-requires c κs = search needs
 loop-holds : tie.Need-loop-holds Inv-loop μ-loop
 loop-holds c =
     let s = c .before .before .before .before .before .before in
-    rw (c .wide .ensures, c .before .before .hash .ensures .0) (search-start (s .args .c) (s .pre .0))
+    rw (c .wide .ensures .0, c .before .before .hash .ensures .0) (search-start (s .args .c) (s .pre .0))
 
 add-result : tie.Need-add-result Inv-loop μ-loop
 add-result c =
@@ -65,14 +65,14 @@ loop-less : tie.Need-loop-less Inv-loop μ-loop
 loop-less c =
     let l = c .before .before .before .before .before .before in
     let s = l .before .before .before .before .before .before .before in
-    omega (arith, c .wide2 .ensures, search-falls (s .pre .0) (c .before .before .before .before .before .loop-test .taken) (l .loop .inv))
+    omega (arith, c .wide2 .ensures .0, search-falls (s .pre .0) (c .before .before .before .before .before .loop-test .taken) (l .loop .inv))
 
 loop-again : tie.Need-loop-again Inv-loop μ-loop
 loop-again c =
     let l = c .before .before .before .before .before .before in
     let s = l .before .before .before .before .before .before .before in
     let in-list = c .before .before .before .before .before .loop-test .taken in
-    rw (c .wide2 .ensures) (search-next (s .pre .0) in-list (l .loop .inv) (c .before .before .if2 .left))
+    rw (c .wide2 .ensures .0) (search-next (s .pre .0) in-list (l .loop .inv) (c .before .before .if2 .left))
 
 returns-3 : tie.Need-returns-3 Inv-loop μ-loop
 returns-3 c =

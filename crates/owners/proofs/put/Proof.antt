@@ -46,8 +46,8 @@ same-length-2 c = search needs
 
 returns : tie.Need-returns
 returns c =
-    let s = c .before .before .before .before .before .before in
     let h = c .before .hash .ensures in
+    let s = c .before .before .before .before .before .before in
     rw (h .0) (table-put (s .pre .1 .0) (omega (arith, h .0, h .1)) (s .pre .1 .1 .1) (s .pre .1 .1 .0))
 
 pub put-spec : {M : Type 1} → statement M

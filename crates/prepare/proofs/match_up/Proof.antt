@@ -17,21 +17,21 @@ use Rattle.prepare.proofs.match_up.Tie as tie
 -- what stands in front of the first and of the second array
 rows-are : (c : tie.After-places2) → c .before .places .result ≡ places (c .before .before .before .before .before .before .before .before .before .before .before .before .before .args .c .k) (c .before .before .before .before .before .before .before .before .before .before .before .before .before .args .first .now)
 unfolding places
-rows-are c = c .before .places .ensures ∙ ap (λ (k : ℕ). suc (length (c .before .before .before .before .before .before .before .before .before .before .before .before .before .args .first .now)) - k) (c .before .before .before .before .before .before .before .before .wide .ensures)
+rows-are c = c .before .places .ensures ∙ ap (λ (k : ℕ). suc (length (c .before .before .before .before .before .before .before .before .before .before .before .before .before .args .first .now)) - k) (c .before .before .before .before .before .before .before .before .wide .ensures .0)
 
 columns-are : (c : tie.After-places2) → c .places2 .result ≡ places (c .before .before .before .before .before .before .before .before .before .before .before .before .before .args .c .k) (c .before .before .before .before .before .before .before .before .before .before .before .before .before .args .second .now)
 unfolding places
-columns-are c = c .places2 .ensures ∙ ap (λ (k : ℕ). suc (length (c .before .before .before .before .before .before .before .before .before .before .before .before .before .args .second .now)) - k) (c .before .before .before .before .before .before .before .before .wide .ensures)
+columns-are c = c .places2 .ensures ∙ ap (λ (k : ℕ). suc (length (c .before .before .before .before .before .before .before .before .before .before .before .before .before .args .second .now)) - k) (c .before .before .before .before .before .before .before .before .wide .ensures .0)
 
 first-are : (c : tie.After-places2) → take (c .before .places .result) (c .before .before .before .before .before .before .fill-codes .last .1 .1 .0) ≡ codes (c .before .before .before .before .before .before .before .before .before .before .before .before .before .args .c .k) (c .before .before .before .before .before .before .before .before .before .before .before .before .before .args .first .now)
 first-are c =
-    codes-front (c .before .before .before .before .before .before .before .before .wide .result) (c .before .before .before .before .before .before .before .before .before .before .before .before .before .args .first .now) _ _ (c .before .places .result) (rows-are c ∙ ap (λ (k : ℕ). places k (c .before .before .before .before .before .before .before .before .before .before .before .before .before .args .first .now)) (sym (c .before .before .before .before .before .before .before .before .wide .ensures))) (c .before .before .before .before .before .before .fill-codes .ensures)
-    ∙ ap (λ (k : ℕ). codes k (c .before .before .before .before .before .before .before .before .before .before .before .before .before .args .first .now)) (c .before .before .before .before .before .before .before .before .wide .ensures)
+    codes-front (c .before .before .before .before .before .before .before .before .wide .result) (c .before .before .before .before .before .before .before .before .before .before .before .before .before .args .first .now) _ _ (c .before .places .result) (rows-are c ∙ ap (λ (k : ℕ). places k (c .before .before .before .before .before .before .before .before .before .before .before .before .before .args .first .now)) (sym (c .before .before .before .before .before .before .before .before .wide .ensures .0))) (c .before .before .before .before .before .before .fill-codes .ensures)
+    ∙ ap (λ (k : ℕ). codes k (c .before .before .before .before .before .before .before .before .before .before .before .before .before .args .first .now)) (c .before .before .before .before .before .before .before .before .wide .ensures .0)
 
 second-are : (c : tie.After-places2) → take (c .places2 .result) (c .before .before .before .fill-codes2 .last .1 .1 .0) ≡ codes (c .before .before .before .before .before .before .before .before .before .before .before .before .before .args .c .k) (c .before .before .before .before .before .before .before .before .before .before .before .before .before .args .second .now)
 second-are c =
-    codes-front (c .before .before .before .before .before .before .before .before .wide .result) (c .before .before .before .before .before .before .before .before .before .before .before .before .before .args .second .now) _ _ (c .places2 .result) (columns-are c ∙ ap (λ (k : ℕ). places k (c .before .before .before .before .before .before .before .before .before .before .before .before .before .args .second .now)) (sym (c .before .before .before .before .before .before .before .before .wide .ensures))) (c .before .before .before .fill-codes2 .ensures)
-    ∙ ap (λ (k : ℕ). codes k (c .before .before .before .before .before .before .before .before .before .before .before .before .before .args .second .now)) (c .before .before .before .before .before .before .before .before .wide .ensures)
+    codes-front (c .before .before .before .before .before .before .before .before .wide .result) (c .before .before .before .before .before .before .before .before .before .before .before .before .before .args .second .now) _ _ (c .places2 .result) (columns-are c ∙ ap (λ (k : ℕ). places k (c .before .before .before .before .before .before .before .before .before .before .before .before .before .args .second .now)) (sym (c .before .before .before .before .before .before .before .before .wide .ensures .0))) (c .before .before .before .fill-codes2 .ensures)
+    ∙ ap (λ (k : ℕ). codes k (c .before .before .before .before .before .before .before .before .before .before .before .before .before .args .second .now)) (c .before .before .before .before .before .before .before .before .wide .ensures .0)
 
 wide-requires : tie.Need-wide-requires
 wide-requires c κs = search needs
@@ -40,13 +40,13 @@ slice-aggregate-fill-codes : tie.Need-slice-aggregate-fill-codes
 slice-aggregate-fill-codes c = search needs
 
 fill-codes-requires : tie.Need-fill-codes-requires
-fill-codes-requires c κs = let s = c .before .before .before .before .before .before in (omega (arith, s .pre .0 .some-base, c .before .wide .ensures), (omega (arith, s .pre .0 .few-bases, c .before .wide .ensures), s .pre .0 .short-first))
+fill-codes-requires c κs = let s = c .before .before .before .before .before .before in (omega (arith, s .pre .0 .some-base, c .before .wide .ensures .0), (omega (arith, s .pre .0 .few-bases, c .before .wide .ensures .0), s .pre .0 .short-first))
 
 slice-aggregate-fill-codes-2 : tie.Need-slice-aggregate-fill-codes-2
 slice-aggregate-fill-codes-2 c = search needs
 
 fill-codes-requires-2 : tie.Need-fill-codes-requires-2
-fill-codes-requires-2 c κs = let s = c .before .before .before .before .before .before .before .before .before in let w = c .before .before .before .before .wide .ensures in (omega (arith, s .pre .0 .some-base, w), (omega (arith, s .pre .0 .few-bases, w), s .pre .0 .short-second))
+fill-codes-requires-2 c κs = let s = c .before .before .before .before .before .before .before .before .before in let w = c .before .before .before .before .wide .ensures .0 in (omega (arith, s .pre .0 .some-base, w), (omega (arith, s .pre .0 .few-bases, w), s .pre .0 .short-second))
 
 places-requires : tie.Need-places-requires
 places-requires c κs = search needs

@@ -68,7 +68,7 @@ long-requires-5 c κs = search needs
 
 returns : tie.Need-returns
 unfolding entryIn
-returns c = rw (c .before .before .before .before .before .before .before .before .long .ensures, c .before .before .before .before .before .before .long2 .ensures, c .before .before .before .before .long3 .ensures, c .before .before .long4 .ensures, c .long5 .ensures)
+returns c = rw (c .before .before .before .before .before .before .before .before .long .ensures .0, c .before .before .before .before .before .before .long2 .ensures .0, c .before .before .before .before .long3 .ensures .0, c .before .before .long4 .ensures .0, c .long5 .ensures .0)
 
 pub entry-at-spec : {M : Type 1} → statement M
 entry-at-spec =

@@ -82,12 +82,12 @@ loop-again c =
     let s = w .before .before .before .before .before .before in
     let a = s .args in
     let v = l .loop in
-    let d = c .before .before .before .before .before .before .before .before .before .before in
     let e = c .before .before .before .before .before in
+    let d = e .before .before .before .before .before in
     subst⁻¹ (λ (f : ℕ). SweepInv (a .firsts .now) (a .nexts .now) (a .room .now) (a .latest .now) (a .list .now) (a .ring) (a .c) (e .store-row .last .1 .1 .0) (e .store-row .last .1 .1 .1 .0) (d .release .last .1 .1 .1 .1 .1 .1 .1 .0) (d .release .result .tail) (e .store-row .result) f (d .release .result .listed) (v .k + 1))
     (c .later-from .ensures)
-    (sweep-next (a .firsts .now) (a .nexts .now) (a .room .now) (a .latest .now) (a .list .now) (a .ring) (a .c) (s .pre .0) (s .pre .1) (v .room) (v .latest) (v .list) (v .tail) (v .head) (v .from) (v .listed) (v .k) (v .inv) (n .loop-test .taken) (c .before .before .before .before .before .before .before .before .before .before .before .before .before .before .wide2 .result) (c .before .before .before .before .before .before .before .before .before .before .before .before .before .before .wide2 .ensures .0) (d .release .last .1 .1 .1 .1 .1 .1 .1 .0) (d .release .result) (d .release .ensures) (e .store-row .last .1 .1 .0) (e .store-row .last .1 .1 .1 .0) (e .store-row .result) (e .store-row .kept .1 .1 .0) (e .store-row .kept .1 .1 .1 .0)
-    (subst (λ (b : ℕ). RowDone b (v .k + 1) (v .room) (v .latest) (a .nexts .now) (a .ring) (d .release .result .tail) (v .head) (v .from) (c .before .before .before .before .before .before .before .before .before .before .before .before .before .before .wide2 .result) (e .store-row .last .1 .1 .0) (e .store-row .last .1 .1 .1 .0) (e .store-row .result)) (w .wide .ensures .0) (e .store-row .ensures)))
+    (sweep-next (a .firsts .now) (a .nexts .now) (a .room .now) (a .latest .now) (a .list .now) (a .ring) (a .c) (s .pre .0) (s .pre .1) (v .room) (v .latest) (v .list) (v .tail) (v .head) (v .from) (v .listed) (v .k) (v .inv) (n .loop-test .taken) (d .before .before .before .before .wide2 .result) (d .before .before .before .before .wide2 .ensures .0) (d .release .last .1 .1 .1 .1 .1 .1 .1 .0) (d .release .result) (d .release .ensures) (e .store-row .last .1 .1 .0) (e .store-row .last .1 .1 .1 .0) (e .store-row .result) (e .store-row .kept .1 .1 .0) (e .store-row .kept .1 .1 .1 .0)
+    (subst (λ (b : ℕ). RowDone b (v .k + 1) (v .room) (v .latest) (a .nexts .now) (a .ring) (d .release .result .tail) (v .head) (v .from) (d .before .before .before .before .wide2 .result) (e .store-row .last .1 .1 .0) (e .store-row .last .1 .1 .1 .0) (e .store-row .result)) (w .wide .ensures .0) (e .store-row .ensures)))
 
 same-length : tie.Need-same-length Inv-loop μ-loop
 same-length c = c .before .loop .inv .long

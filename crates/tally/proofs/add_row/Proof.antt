@@ -70,7 +70,7 @@ loop-less : tie.Need-loop-less Inv-loop μ-loop
 loop-less c =
     let l = c .before .before .before .before .before .before .before .before .before in
     let s = l .before .before in
-    rw (c .wide .ensures) (come-less (s .args .nexts .now) (s .pre .0) (l .loop .j) (omega arith) (l .loop .inv .inside))
+    rw (c .wide .ensures .0) (come-less (s .args .nexts .now) (s .pre .0) (l .loop .j) (omega arith) (l .loop .inv .inside))
 
 loop-again : tie.Need-loop-again Inv-loop μ-loop
 loop-again c =
@@ -81,7 +81,7 @@ loop-again c =
     let s = l .before .before in
     let a = s .args in
     let v = l .loop in
-    rw (more .wrapping-add-u32 .ensures, c .wide .ensures)
+    rw (more .wrapping-add-u32 .ensures, c .wide .ensures .0)
     (add-next (a .nexts .now) (a .start) (a .b) (a .counts .now) (a .links) (v .counts) (v .total) (v .j) (v .inv) (s .pre .0) (omega arith)
     (total .before .sum .result) (total .wrapping-add-u64 .result) (rw (m .minus .ensures) at (total .before .sum .ensures)) (total .wrapping-add-u64 .ensures))
 

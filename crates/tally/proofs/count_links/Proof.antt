@@ -36,7 +36,7 @@ add-row-requires : tie.Need-add-row-requires Inv-loop μ-loop
 add-row-requires c κs =
     let w = c .before in
     let safe = w .before .before .before .before .before .before .before .before .pre in
-    (safe .nexts-safe, rw (w .wide .ensures) (safe .starts _))
+    (safe .nexts-safe, rw (w .wide .ensures .0) (safe .starts _))
 
 add-p : tie.Need-add-p Inv-loop μ-loop
 add-p c = omega arith
@@ -55,7 +55,7 @@ loop-again c =
     let v = l .loop in
     let freed = r .release .last .1 .1 .1 .1 .0 in
     let new = c .add-row .last .1 .1 .1 .0 in
-    let row = subst (λ (n : ℕ). RowAdded (a .nexts .now) n (a .b) freed new (v .links) (c .add-row .result)) (w .wide .ensures) (c .add-row .ensures) in
+    let row = subst (λ (n : ℕ). RowAdded (a .nexts .now) n (a .b) freed new (v .links) (c .add-row .result)) (w .wide .ensures .0) (c .add-row .ensures) in
     link-next (a .firsts .now) (a .nexts .now) (a .b) (v .counts) (v .links) (v .p) (v .inv) (s .pre .few-rows) (i .loop-test .taken) freed new (c .add-row .result)
     (r .release .ensures) row
 

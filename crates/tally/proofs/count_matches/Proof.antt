@@ -32,7 +32,7 @@ wide-requires c κs = search needs
 row-size-requires : tie.Need-row-size-requires Inv-loop μ-loop
 row-size-requires c κs =
     let safe = c .before .before .before .before .before .before .pre in
-    (safe .nexts-safe, rw (c .wide .ensures) (safe .starts _))
+    (safe .nexts-safe, rw (c .wide .ensures .0) (safe .starts _))
 
 add-matches : tie.Need-add-matches Inv-loop μ-loop
 add-matches c =
@@ -71,7 +71,7 @@ loop-again c =
     let s = l .before .before .before in
     let a = s .args in
     let v = l .loop in
-    let size = subst (λ (n : ℕ). RowSized (a .nexts .now) n (r .row-size .result)) (r .before .wide .ensures) (r .row-size .ensures) in
+    let size = subst (λ (n : ℕ). RowSized (a .nexts .now) n (r .row-size .result)) (r .before .wide .ensures .0) (r .row-size .ensures) in
     run-next (a .firsts .now) (a .nexts .now) (a .b) (s .pre) (v .matches) (v .run) (v .widest) (v .p) (v .inv) (r .row-size .result)
     (c .before .before .leaving .result) (c .before .minus .result) (c .larger .result) (i .loop-test .taken) size (c .before .before .leaving .ensures)
     (c .before .minus .ensures) (c .larger .ensures)

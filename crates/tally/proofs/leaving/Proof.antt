@@ -31,14 +31,14 @@ row-size-requires : tie.Need-row-size-requires
 row-size-requires c κs =
     let s = c .before .before .before .before .before in
     let safe = s .pre .0 in
-    (safe .nexts-safe, rw (c .wide .ensures) (safe .starts _))
+    (safe .nexts-safe, rw (c .wide .ensures .0) (safe .starts _))
 
 returns-2 : tie.Need-returns-2
 returns-2 c =
     let e = c .before .before .before in
     let s = e .before .before .before in
     let a = s .args in
-    let size = subst (λ (n : ℕ). RowSized (a .nexts .now) n (c .row-size .result)) (c .before .wide .ensures) (c .row-size .ensures) in
+    let size = subst (λ (n : ℕ). RowSized (a .nexts .now) n (c .row-size .result)) (c .before .wide .ensures .0) (c .row-size .ensures) in
     leaves-row (a .firsts .now) (a .nexts .now) (a .b) (a .p) (c .row-size .result) (e .if1 .left) (s .pre .1) size
 
 pub leaving-spec : {M : Type 1} → statement M

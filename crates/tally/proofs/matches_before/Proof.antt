@@ -29,7 +29,7 @@ wide-requires c κs = search needs
 row-size-requires : tie.Need-row-size-requires Inv-loop μ-loop
 row-size-requires c κs =
     let safe = c .before .before .before .before .before .before .pre .0 in
-    (safe .nexts-safe, rw (c .wide .ensures) (safe .starts _))
+    (safe .nexts-safe, rw (c .wide .ensures .0) (safe .starts _))
 
 add-matches : tie.Need-add-matches Inv-loop μ-loop
 add-matches c =
@@ -48,7 +48,7 @@ loop-again c =
     let l = c .before .before .before .before in
     let s = l .before .before .before in
     let a = s .args in
-    let size = subst (λ (n : ℕ). RowSized (a .nexts .now) n (c .row-size .result)) (c .before .wide .ensures) (c .row-size .ensures) in
+    let size = subst (λ (n : ℕ). RowSized (a .nexts .now) n (c .row-size .result)) (c .before .wide .ensures .0) (c .row-size .ensures) in
     (omega arith, before-next (a .firsts .now) (a .nexts .now) (s .pre .0) (l .loop .p) (l .loop .matches) (c .row-size .result) (omega arith) (l .loop .inv .1) size)
 
 returns : tie.Need-returns Inv-loop μ-loop

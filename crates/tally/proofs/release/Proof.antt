@@ -32,7 +32,7 @@ release-row-requires c κs =
     let w = c .before in
     let s = w .before .before .before .before .before in
     let safe = s .pre .0 in
-    (safe .nexts-safe, rw (w .wide .ensures) (safe .starts _))
+    (safe .nexts-safe, rw (w .wide .ensures .0) (safe .starts _))
 
 returns-2 : tie.Need-returns-2
 returns-2 c =
@@ -41,7 +41,7 @@ returns-2 c =
     let s = e .before .before .before in
     let a = s .args in
     let new = c .release-row .last .1 .1 .0 in
-    let row = subst (λ (n : ℕ). RowReleased (a .nexts .now) n (a .counts .now) new) (w .wide .ensures) (c .release-row .ensures) in
+    let row = subst (λ (n : ℕ). RowReleased (a .nexts .now) n (a .counts .now) new) (w .wide .ensures .0) (c .release-row .ensures) in
     released-row (a .firsts .now) (a .nexts .now) (a .b) (a .p) (a .counts .now) new (e .if1 .left) (s .pre .1) row
 
 pub release-spec : {M : Type 1} → statement M

@@ -53,14 +53,14 @@ loop-less : tie.Need-loop-less Inv-loop μ-loop
 loop-less c =
     let l = c .before .before .before .before .before in
     let s = l .before .before in
-    rw (c .wide .ensures) (come-less (s .args .nexts .now) (s .pre .0) (l .loop .j) (omega arith) (l .loop .inv .inside))
+    rw (c .wide .ensures .0) (come-less (s .args .nexts .now) (s .pre .0) (l .loop .j) (omega arith) (l .loop .inv .inside))
 
 loop-again : tie.Need-loop-again Inv-loop μ-loop
 loop-again c =
     let l = c .before .before .before .before .before in
     let s = l .before .before in
     let a = s .args in
-    rw (c .before .before .one-less .ensures, c .wide .ensures)
+    rw (c .before .before .one-less .ensures, c .wide .ensures .0)
     (release-next (a .nexts .now) (a .start) (a .counts .now) (l .loop .counts) (l .loop .j) (l .loop .inv) (s .pre .0) (omega arith))
 
 returns : tie.Need-returns Inv-loop μ-loop

@@ -37,13 +37,13 @@ loop-less : tie.Need-loop-less Inv-loop μ-loop
 loop-less c =
     let l = c .before .before .before in
     let s = l .before .before in
-    rw (c .wide .ensures) (come-less (s .args .nexts .now) (s .pre .0) (l .loop .j) (omega arith) (l .loop .inv .inside))
+    rw (c .wide .ensures .0) (come-less (s .args .nexts .now) (s .pre .0) (l .loop .j) (omega arith) (l .loop .inv .inside))
 
 loop-again : tie.Need-loop-again Inv-loop μ-loop
 loop-again c =
     let l = c .before .before .before in
     let s = l .before .before in
-    rw (c .wide .ensures) (size-next (s .args .nexts .now) (s .args .start) (s .pre .0) (l .loop .size) (l .loop .j) (l .loop .inv) (omega arith))
+    rw (c .wide .ensures .0) (size-next (s .args .nexts .now) (s .args .start) (s .pre .0) (l .loop .size) (l .loop .j) (l .loop .inv) (omega arith))
 
 returns : tie.Need-returns Inv-loop μ-loop
 returns c =
