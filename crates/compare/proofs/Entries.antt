@@ -2,7 +2,7 @@
 use mathlib.Core.Path.{_≡_, sym, ap, ap₂, subst⁻¹, _∙_}
 use mathlib.Core.Bool.{Bool}
 use mathlib.Core.List.{List, []}
-use Prim.Native.Nat.{ℕ, _+_, _≤_, _<_}
+use Prim.Native.Nat.{ℕ, suc, _+_, _-_, _≤_, _<_}
 use native.Mathlib.Omega.{arith}
 use borrow.Author.Tests.{eq-eqb, ne-eqb}
 use lib.ListN.{length, getD, take, replicate, length-replicate, getD-replicate, List·getD-eq-default}
@@ -19,6 +19,7 @@ use Rattle.rules.specs.Answers.{Outcome, refusal, done, checked, afterChecks, c
 use Rattle.rules.proofs.Tests.{Three, below, equal, above, three}
 use Rattle.matches.specs.Walks.{WalkSafe, Described}
 use Rattle.prepare.specs.Prepared.{Accepted, Blank, Matched}
+use Rattle.prepare.proofs.Checking.{accepted}
 use Rattle.prepare.proofs.Matching.{places-few}
 use Rattle.tally.specs.declared.Counts.{Counts}
 use Rattle.tally.specs.Tallies.{Counted}
@@ -74,45 +75,64 @@ stopped-own c s t work row e = sym (after-accepted c s t work [] _ e)
 
 -- ---- the walks of a job
 
-module _ (c : Settings) (s t firsts nexts : List ℕ) (ok : Accepted c s t) (m : Matched c s t firsts nexts) (rows : ℕ) (er : rows ≡ places (c .k) s) where
+-- no check applies
+pub passes : (c : Settings) (s t : List ℕ) {r : Answer} → r ≡ checked c s t → r .number ≡ 0 → checked c s t .number ≡ 0
+passes c s t e z = sym (ap (λ (x : Answer). x .number) e) ∙ z
+
+-- the rows are the places of the first sequence
+pub row-count : (c : Settings) (s : List ℕ) {rows k : ℕ} → rows ≡ suc (length s) - k → k ≡ c .k → rows ≡ places (c .k) s
+unfolding places
+row-count c s e d = e ∙ ap (λ (q : ℕ). suc (length s) - q) d
+
+-- an accepted job whose walks are made and whose rows are counted
+pub record Ready (c : Settings) (s t firsts nexts : List ℕ) (rows : ℕ) : Type 0 where
+  pub passed : checked c s t .number ≡ 0
+  pub walks : Matched c s t firsts nexts
+  pub rows-are : rows ≡ places (c .k) s
+
+module _ {c : Settings} {s t firsts nexts : List ℕ} {rows : ℕ} (y : Ready c s t firsts nexts rows) where
+  ok : Accepted c s t
+  ok = accepted c s t (y .passed)
+
   pub rows-few : rows ≤ length firsts
-  rows-few = let l = m .long in let p = places-few (c .k) s (ok .some-base) (ok .short-first) in omega arith
+  rows-few = let l = y .walks .long in let p = places-few (c .k) s (ok .some-base) (ok .short-first) in omega arith
 
   pub front-long : rows ≡ length (take rows firsts)
   front-long = sym (length-take-le rows firsts rows-few)
 
   pub front-walks : WalkSafe (take rows firsts) nexts
-  front-walks = subst⁻¹ (λ (r : ℕ). WalkSafe (take r firsts) nexts) er (m .safe)
+  front-walks = subst⁻¹ (λ (r : ℕ). WalkSafe (take r firsts) nexts) (y .rows-are) (y .walks .safe)
 
   pub walked : Walked (take rows firsts) nexts c
-  walked = record { walks = front-walks; wide = m .wide; some-base = ok .some-base; few-bases = ok .few-bases }
+  walked = record { walks = front-walks; wide = y .walks .wide; some-base = ok .some-base; few-bases = ok .few-bases }
 
   described : Described (isMatch c s t) (places (c .k) t) (take rows firsts) nexts
-  described = subst⁻¹ (λ (r : ℕ). Described (isMatch c s t) (places (c .k) t) (take r firsts) nexts) er (m .described)
+  described = subst⁻¹ (λ (r : ℕ). Described (isMatch c s t) (places (c .k) t) (take r firsts) nexts) (y .rows-are) (y .walks .described)
 
   -- its rows are the places of the first sequence, so its matches are the job's
   own-matches : matchesTo (isMatch c s t) (places (c .k) t) (length (take rows firsts)) ≡ matches c s t
   unfolding matches
-  own-matches = ap (matchesTo (isMatch c s t) (places (c .k) t)) (sym front-long ∙ er)
+  own-matches = ap (matchesTo (isMatch c s t) (places (c .k) t)) (sym front-long ∙ y .rows-are)
 
-  pub compare-accepted : (work list work′ list′ : List ℕ) (r : Answer) → checked c s t .number ≡ 0 → ComparesMatches (take rows firsts) nexts c work list work′ list′ r
+  pub compare-accepted : (work list work′ list′ : List ℕ) (r : Answer) → ComparesMatches (take rows firsts) nexts c work list work′ list′ r
       → _≡_ {A = Outcome} (record { answer = r; work = work′; list = list′ }) (compared c s t work list)
-  compare-accepted work list work′ list′ r e a =
+  compare-accepted work list work′ list′ r a =
       a .outcome (isMatch c s t) (places (c .k) t) described
-      ∙ ap₂ (λ (cells : List Cell) (n : ℕ). comparedOf c cells n work list) own-matches (sym front-long ∙ er)
-      ∙ compared-own c s t work list e
+      ∙ ap₂ (λ (cells : List Cell) (n : ℕ). comparedOf c cells n work list) own-matches (sym front-long ∙ y .rows-are)
+      ∙ compared-own c s t work list (y .passed)
 
-  pub stop-accepted : (work work′ : List ℕ) (row : ℕ) (r : Answer) → checked c s t .number ≡ 0 → StopsMatches (take rows firsts) nexts c row work work′ r
+  pub stop-accepted : (work work′ : List ℕ) (n row : ℕ) (r : Answer) → n ≡ row → StopsMatches (take rows firsts) nexts c n work work′ r
       → _≡_ {A = Outcome} (record { answer = r; work = work′; list = [] }) (stopped c s t work row)
-  stop-accepted work work′ row r e a =
+  stop-accepted work work′ n row r en a =
       a .outcome (isMatch c s t) (places (c .k) t) described
-      ∙ ap₂ (λ (cells : List Cell) (n : ℕ). stoppedOf c cells n work row) own-matches (sym front-long ∙ er)
-      ∙ stopped-own c s t work row e
+      ∙ ap₂ (λ (cells : List Cell) (rows : ℕ). stoppedOf c cells rows work n) own-matches (sym front-long ∙ y .rows-are)
+      ∙ ap (stoppedOf c (matches c s t) (places (c .k) s) work) en
+      ∙ stopped-own c s t work row (y .passed)
 
-  pub need-accepted : (b : ℕ) (counts : Counts) → b ≡ c .b → checked c s t .number ≡ 0 → Counted (take rows firsts) nexts b counts → counts .widest ≡ replied c s t
+  pub need-accepted : (b : ℕ) (counts : Counts) → b ≡ c .b → Counted (take rows firsts) nexts b counts → counts .widest ≡ replied c s t
   unfolding replied workNeed
-  need-accepted b counts eb e a =
+  need-accepted b counts eb a =
       a .exact (isMatch c s t) (places (c .k) t) described .1
-      ∙ ap₂ (λ (cells : List Cell) (n : ℕ). largestRun b cells n) own-matches (sym front-long ∙ er)
+      ∙ ap₂ (λ (cells : List Cell) (n : ℕ). largestRun b cells n) own-matches (sym front-long ∙ y .rows-are)
       ∙ ap (λ (q : ℕ). largestRun q (matches c s t) (places (c .k) s)) eb
-      ∙ sym (rw (eq-eqb (checked c s t .number) 0 e))
+      ∙ sym (rw (eq-eqb (checked c s t .number) 0 (y .passed)))

@@ -20,7 +20,7 @@ use Rattle.input.specs.Grammar.{Progress, Outcome, nothingYet, knownKind, inTur
 use Rattle.input.specs.States.{inFront}
 use Rattle.input.proofs.Cutting.{cut}
 use Rattle.replies.specs.Output.{jobOutput, inFront as outputFront}
-use Rattle.exchange.specs.Whole.{refusedInput as refusedOf, outputOf, outputLength, outputLeft}
+use Rattle.exchange.specs.Whole.{inputRefusal, outputOf, outputLength, outputLeft}
 
 -- one of two small numbers
 either : (t : Bool) (x y : ℕ) → x ≤ 26 → y ≤ 26 → cond t x y ≤ 26
@@ -128,8 +128,8 @@ known-input input =
     (known nothingYet 0 300001 (linesOf (take 300000 input)) (omega (arith, lines-few (take 300000 input), length-take 300000 input)))
 
 -- the numbers of the refused frame fit
-pub refusal-fits : (input : List ℕ) (r : InputRead) → r ≡ inputOf input .answer → refusedFits (refusedOf r) ≡ true
-unfolding refusedFits refusedOf
+pub refusal-fits : (input : List ℕ) (r : InputRead) → r ≡ inputOf input .answer → refusedFits (inputRefusal r) ≡ true
+unfolding refusedFits inputRefusal
 refusal-fits input r e =
     let k = known-input input in
     let n = k .number in
@@ -178,9 +178,9 @@ module _ (input output left : List ℕ) (n : ℕ) where
   long-output lines h e a b =
       (rw (le-leb 10847 (length output) h) (a ∙ ap length e), rw (le-leb 10847 (length output) h) (b ∙ ap (λ (l : List ℕ). outputFront l output) e))
 
-  pub refused-lines : (r : InputRead) → r ≡ inputOf input .answer → (r .number ≡ 0 → ⊥) → refusedLine (refusedOf r) ≡ outputOf input
+  pub refused-lines : (r : InputRead) → r ≡ inputOf input .answer → (r .number ≡ 0 → ⊥) → refusedLine (inputRefusal r) ≡ outputOf input
   unfolding outputOf
-  refused-lines r e h = ap (λ (x : InputRead). refusedLine (refusedOf x)) e ∙ sym (not-taken (inputOf input .answer .number) _ _ (λ z. h (ap (λ (x : InputRead). x .number) e ∙ z)))
+  refused-lines r e h = ap (λ (x : InputRead). refusedLine (inputRefusal x)) e ∙ sym (not-taken (inputOf input .answer .number) _ _ (λ z. h (ap (λ (x : InputRead). x .number) e ∙ z)))
 
   pub job-lines : (r : InputRead) (first second : List ℕ) → r ≡ inputOf input .answer → r .number ≡ 0 → first ≡ inputOf input .first → second ≡ inputOf input .second
       → jobOutput (r .settings) first second ≡ outputOf input

@@ -11,14 +11,14 @@ use Rattle.input.specs.declared.InputRead.{InputRead}
 use Rattle.input.specs.Grammar.{inputOf}
 use Rattle.replies.specs.Output.{jobOutput, inFront}
 
-unfoldable pub refusedInput : InputRead → Refused
-refusedInput x = record { number = x .number; sequence = 0; detail = x .line }
+unfoldable pub inputRefusal : InputRead → Refused
+inputRefusal x = record { number = x .number; sequence = 0; detail = x .line }
 
 unfoldable pub outputOf : List ℕ → List ℕ
-unfolding inputOf jobOutput refusedLine refusedInput
+unfolding inputOf jobOutput refusedLine inputRefusal
 outputOf input =
     let r = inputOf input in
-    cond (eqb (r .answer .number) 0) (jobOutput (r .answer .settings) (r .first) (r .second)) (refusedLine (refusedInput (r .answer)))
+    cond (eqb (r .answer .number) 0) (jobOutput (r .answer .settings) (r .first) (r .second)) (refusedLine (inputRefusal (r .answer)))
 
 -- a slice that holds every output: 400 entries of 27 bytes and a done frame of 47. A shorter one is left as it is, and 0 is answered
 unfoldable pub outputLength : List ℕ → List ℕ → ℕ

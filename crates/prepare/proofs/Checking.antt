@@ -2,7 +2,7 @@
 use mathlib.Core.Path.{_≡_, refl, sym, ap, subst, _∙_}
 use mathlib.Core.Logic.{_⊎_, inl, inr}
 use mathlib.Core.Bool.{Bool, true, false, cond, _||_}
-use mathlib.Core.List.{List}
+use mathlib.Core.List.{List, _∷_}
 use Prim.Native.Nat.{ℕ, _≤_, _<_}
 use native.Mathlib.Omega.{arith}
 use borrow.Author.Tests.{lt-ltb, le-ltb, ltb-false}
@@ -11,7 +11,7 @@ use lib.ListN.{length}
 use Rattle.rules.specs.declared.Settings.{Settings}
 use Rattle.rules.specs.declared.Answer.{Answer}
 use Rattle.rules.specs.Letters.{badPlace}
-use Rattle.rules.specs.Answers.{firstOf, refusal, outside, checked}
+use Rattle.rules.specs.Answers.{Line, on, firstOf, refusal, outside, checked}
 use Rattle.rules.proofs.Tests.{tests, tested}
 use Rattle.prepare.specs.Prepared.{Accepted}
 
@@ -24,44 +24,16 @@ pub not-below : (low high n : ℕ) → low ≤ n → outside low high n ≡ ltb 
 unfolding outside
 not-below low high n h = rw (le-ltb n low h)
 
--- ---- each refusal, where none before it applies
+-- ---- a line of a table that applies, and one that does not
 
-module _ (c : Settings) (first second : List ℕ) where
-  pub check-1 : outside 1 31 (c .k) ≡ true → refusal 1 0 0 ≡ checked c first second
-  unfolding checked firstOf
-  check-1 e1 = rw (e1)
+module _ {A : Type 0} (then : A) (others : List (Line A)) (otherwise : A) where
+  pub applies : {t : Bool} → t ≡ true → firstOf (on t then ∷ others) otherwise ≡ then
+  unfolding firstOf
+  applies e = rw e
 
-  pub check-2 : outside 1 31 (c .k) ≡ false → outside 1 1024 (c .b) ≡ true → refusal 2 0 0 ≡ checked c first second
-  unfolding checked firstOf
-  check-2 e1 e2 = rw (e1, e2)
-
-  pub check-3 : outside 1 31 (c .k) ≡ false → outside 1 1024 (c .b) ≡ false → outside 1 1024 (c .a) ≡ true → refusal 3 0 0 ≡ checked c first second
-  unfolding checked firstOf
-  check-3 e1 e2 e3 = rw (e1, e2, e3)
-
-  pub check-4 : outside 1 31 (c .k) ≡ false → outside 1 1024 (c .b) ≡ false → outside 1 1024 (c .a) ≡ false → outside 0 16384 (c .m) ≡ true → refusal 4 0 0 ≡ checked c first second
-  unfolding checked firstOf
-  check-4 e1 e2 e3 e4 = rw (e1, e2, e3, e4)
-
-  pub check-5 : outside 1 31 (c .k) ≡ false → outside 1 1024 (c .b) ≡ false → outside 1 1024 (c .a) ≡ false → outside 0 16384 (c .m) ≡ false → ltb 16384 (length first) ≡ true → refusal 5 1 0 ≡ checked c first second
-  unfolding checked firstOf
-  check-5 e1 e2 e3 e4 e5 = rw (e1, e2, e3, e4, e5)
-
-  pub check-6 : outside 1 31 (c .k) ≡ false → outside 1 1024 (c .b) ≡ false → outside 1 1024 (c .a) ≡ false → outside 0 16384 (c .m) ≡ false → ltb 16384 (length first) ≡ false → ltb 16384 (length second) ≡ true → refusal 5 2 0 ≡ checked c first second
-  unfolding checked firstOf
-  check-6 e1 e2 e3 e4 e5 e6 = rw (e1, e2, e3, e4, e5, e6)
-
-  pub check-7 : outside 1 31 (c .k) ≡ false → outside 1 1024 (c .b) ≡ false → outside 1 1024 (c .a) ≡ false → outside 0 16384 (c .m) ≡ false → ltb 16384 (length first) ≡ false → ltb 16384 (length second) ≡ false → ltb 0 (badPlace first) ≡ true → refusal 6 1 (badPlace first) ≡ checked c first second
-  unfolding checked firstOf
-  check-7 e1 e2 e3 e4 e5 e6 e7 = rw (e1, e2, e3, e4, e5, e6, e7)
-
-  pub check-8 : outside 1 31 (c .k) ≡ false → outside 1 1024 (c .b) ≡ false → outside 1 1024 (c .a) ≡ false → outside 0 16384 (c .m) ≡ false → ltb 16384 (length first) ≡ false → ltb 16384 (length second) ≡ false → ltb 0 (badPlace first) ≡ false → ltb 0 (badPlace second) ≡ true → refusal 6 2 (badPlace second) ≡ checked c first second
-  unfolding checked firstOf
-  check-8 e1 e2 e3 e4 e5 e6 e7 e8 = rw (e1, e2, e3, e4, e5, e6, e7, e8)
-
-  pub check-9 : outside 1 31 (c .k) ≡ false → outside 1 1024 (c .b) ≡ false → outside 1 1024 (c .a) ≡ false → outside 0 16384 (c .m) ≡ false → ltb 16384 (length first) ≡ false → ltb 16384 (length second) ≡ false → ltb 0 (badPlace first) ≡ false → ltb 0 (badPlace second) ≡ false → refusal 0 0 0 ≡ checked c first second
-  unfolding checked firstOf
-  check-9 e1 e2 e3 e4 e5 e6 e7 e8 = rw (e1, e2, e3, e4, e5, e6, e7, e8)
+  pub passes-on : {t : Bool} → t ≡ false → firstOf (on t then ∷ others) otherwise ≡ firstOf others otherwise
+  unfolding firstOf
+  passes-on e = rw e
 
 -- ---- a job that is not refused
 

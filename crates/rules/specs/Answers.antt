@@ -54,12 +54,11 @@ firstOf (l ∷ ls) a = let r = firstOf ls a in cond (l .when) (l .then) r
 unfoldable pub outside : ℕ → ℕ → ℕ → Bool
 outside low high n = ltb n low || ltb high n
 
--- 1 to 6, which need no room and leave the rooms untouched: the refusal, or number 0
-unfoldable pub checked : Settings → List ℕ → List ℕ → Answer
-unfolding firstOf refusal outside badPlace
-checked c first second =
-    firstOf
-    (on (outside 1 31 (c .k)) (refusal 1 0 0)
+-- 1 to 6, in order
+unfoldable pub checks : Settings → List ℕ → List ℕ → List (Line Answer)
+unfolding refusal outside badPlace
+checks c first second =
+    on (outside 1 31 (c .k)) (refusal 1 0 0)
     ∷ on (outside 1 1024 (c .b)) (refusal 2 0 0)
     ∷ on (outside 1 1024 (c .a)) (refusal 3 0 0)
     ∷ on (outside 0 16384 (c .m)) (refusal 4 0 0)
@@ -67,8 +66,12 @@ checked c first second =
     ∷ on (ltb 16384 (length second)) (refusal 5 2 0)
     ∷ on (ltb 0 (badPlace first)) (refusal 6 1 (badPlace first))
     ∷ on (ltb 0 (badPlace second)) (refusal 6 2 (badPlace second))
-    ∷ [])
-    (refusal 0 0 0)
+    ∷ []
+
+-- the refusal that these give, which need no room and leave the rooms untouched, or number 0
+unfoldable pub checked : Settings → List ℕ → List ℕ → Answer
+unfolding firstOf checks refusal
+checked c first second = firstOf (checks c first second) (refusal 0 0 0)
 
 -- a job whose settings, lengths and letters are refused ends there, and the others go on
 unfoldable pub afterChecks : Settings → List ℕ → List ℕ → List ℕ → List ℕ → Outcome → Outcome

@@ -9,6 +9,16 @@ use borrow.Author.Needs.{needs}
 use Rattle.jobs.proofs.compare_matches.Statement.{statement}
 use Rattle.jobs.proofs.compare_matches.Tie as tie
 
+-- the places that are spoken of, from where every entry found its room: the matches listed, and the start
+abbrev listed : tie.Else2 → tie.After-list-matches
+listed t = t .before .before .before .before .before .before .before .before .before .before .before
+
+abbrev counted : tie.After-list-matches → tie.After-count-matches
+counted m = m .before .before .before .before .before .before
+
+abbrev start : tie.After-count-matches → tie.Start
+start n = n .before .before .before .before .before .before
+
 wide-requires : tie.Need-wide-requires
 wide-requires c κs = search needs
 
@@ -90,13 +100,12 @@ zero-after-entries-requires : tie.Need-zero-after-entries-requires
 unfolding listHolds
 zero-after-entries-requires c κs =
     let t = c .before in
-    let m = t .before .before .before .before .before .before .before .before .before .before .before in
-    let s = m .before .before .before .before .before .before .before .before .before .before .before .before in
-    let a = s .args in
+    let m = listed t in
+    let s = start (counted m) in
     omega (arith, t .before .entry-count .ensures, t .if2 .left, m .list-matches .kept .1 .1 .1 .1 .1 .0, s .good .1 .1 .1 .1 .0)
 
 count-links-requires : tie.Need-count-links-requires
-count-links-requires c κs = c .before .before .before .before .before .before .before .before .before .before .before .before .before .before .before .before .before .before .before .before .before .before .before .before .before .before .before .pre .walks
+count-links-requires c κs = start (counted (listed (c .before .before .before .before))) .pre .walks
 
 done-requires : tie.Need-done-requires
 done-requires c κs = search needs

@@ -7,6 +7,13 @@ use borrow.Author.Needs.{needs}
 use Rattle.jobs.proofs.stop_matches.Statement.{statement}
 use Rattle.jobs.proofs.stop_matches.Tie as tie
 
+-- the places that are spoken of, from where the row was found: the matches counted, and the start
+abbrev counted : tie.Else2 → tie.After-count-matches
+counted t = t .before .before .before .before
+
+abbrev start : tie.After-count-matches → tie.Start
+start n = n .before .before .before .before .before
+
 wide-requires : tie.Need-wide-requires
 wide-requires c κs = search needs
 
@@ -68,7 +75,7 @@ hold-requires c κs =
     (s .pre, (omega (arith, q .before .record-count .ensures, q .if1 .left), (omega (arith, n .count-matches .ensures .few, n .count-matches .ensures .narrow, s .pre .walks .few-rows), t .if2 .left)))
 
 count-links-requires : tie.Need-count-links-requires
-count-links-requires c κs = c .before .before .before .before .before .before .before .before .before .before .before .before .before .pre .walks
+count-links-requires c κs = start (counted (c .before .before .before .before)) .pre .walks
 
 done-requires : tie.Need-done-requires
 done-requires c κs = search needs

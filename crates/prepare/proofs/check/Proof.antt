@@ -1,14 +1,86 @@
 -- `prepare::check` meets its contract: each return is the first check that applies, where none before it does. Assumes nothing.
-use mathlib.Core.Path.{_≡_, sym, ap, _∙_}
+use mathlib.Core.Path.{_≡_, refl, sym, ap, _∙_}
+use mathlib.Core.List.{List, _∷_}
+use Prim.Native.Nat.{ℕ}
 use native.Mathlib.Omega.{arith}
 use borrow.Author.Tests.{lt-ltb, le-ltb}
-use lib.ListN.{length}
+use lib.ListN.{length, drop}
+use Rattle.rules.specs.declared.Answer.{Answer}
 use Rattle.rules.specs.Letters.{badPlace}
-use Rattle.rules.specs.Answers.{refusal}
-use Rattle.prepare.proofs.Checking.{check-1, check-2, check-3, check-4, check-5, check-6, check-7, check-8, check-9}
+use Rattle.rules.specs.Answers.{firstOf, refusal, checks, checked}
+use Rattle.prepare.proofs.Checking.{applies, passes-on}
 use borrow.Author.Needs.{needs}
 use Rattle.prepare.proofs.check.Statement.{statement}
 use Rattle.prepare.proofs.check.Tie as tie
+
+-- what the checks behind the first n give
+abbrev beyond : ℕ → tie.Start → Answer
+beyond n s = firstOf (drop n (checks (s .args .c) (s .args .first .now) (s .args .second .now))) (refusal 0 0 0)
+
+abbrev given : tie.Start → Answer
+given s = checked (s .args .c) (s .args .first .now) (s .args .second .now)
+
+from-first : (s : tie.Start) → given s ≡ beyond 0 s
+unfolding checked
+from-first s = refl
+
+-- the start of the call, from the places that one check or more lets through
+abbrev start1 : tie.Else1 → tie.Start
+start1 q = q .before .before .before .before
+
+abbrev start2 : tie.Else2 → tie.Start
+start2 q = start1 (q .before .before)
+
+abbrev start3 : tie.Else3 → tie.Start
+start3 q = start2 (q .before .before)
+
+abbrev start4 : tie.Else4 → tie.Start
+start4 q = start3 (q .before .before)
+
+abbrev start5 : tie.Else5 → tie.Start
+start5 q = start4 (q .before)
+
+abbrev start6 : tie.Else6 → tie.Start
+start6 q = start5 (q .before)
+
+abbrev start7 : tie.Else7 → tie.Start
+start7 q = start6 (q .before .before)
+
+abbrev start8 : tie.Else8 → tie.Start
+start8 q = start7 (q .before .before)
+
+-- there the earlier checks do not apply
+past-1 : (q : tie.Else1) → given (start1 q) ≡ beyond 1 (start1 q)
+unfolding checks
+past-1 q = from-first (start1 q) ∙ passes-on _ _ _ (sym (q .before .is-outside .ensures) ∙ q .if1 .left)
+
+past-2 : (q : tie.Else2) → given (start2 q) ≡ beyond 2 (start2 q)
+unfolding checks
+past-2 q = past-1 (q .before .before) ∙ passes-on _ _ _ (sym (q .before .is-outside2 .ensures) ∙ q .if2 .left)
+
+past-3 : (q : tie.Else3) → given (start3 q) ≡ beyond 3 (start3 q)
+unfolding checks
+past-3 q = past-2 (q .before .before) ∙ passes-on _ _ _ (sym (q .before .is-outside3 .ensures) ∙ q .if3 .left)
+
+past-4 : (q : tie.Else4) → given (start4 q) ≡ beyond 4 (start4 q)
+unfolding checks
+past-4 q = past-3 (q .before .before) ∙ passes-on _ _ _ (sym (q .before .is-outside4 .ensures) ∙ q .if4 .left)
+
+past-5 : (q : tie.Else5) → given (start5 q) ≡ beyond 5 (start5 q)
+unfolding checks
+past-5 q = past-4 (q .before) ∙ passes-on _ _ _ (le-ltb 16384 (length (start5 q .args .first .now)) (q .if5 .left))
+
+past-6 : (q : tie.Else6) → given (start6 q) ≡ beyond 6 (start6 q)
+unfolding checks
+past-6 q = past-5 (q .before) ∙ passes-on _ _ _ (le-ltb 16384 (length (start6 q .args .second .now)) (q .if6 .left))
+
+past-7 : (q : tie.Else7) → given (start7 q) ≡ beyond 7 (start7 q)
+unfolding checks
+past-7 q = past-6 (q .before .before) ∙ passes-on _ _ _ (le-ltb 0 (badPlace (start7 q .args .first .now)) (omega (arith, q .if7 .left, q .before .bad-place .ensures)))
+
+past-8 : (q : tie.Else8) → given (start8 q) ≡ beyond 8 (start8 q)
+unfolding checks
+past-8 q = past-7 (q .before .before) ∙ passes-on _ _ _ (le-ltb 0 (badPlace (start8 q .args .second .now)) (omega (arith, q .if8 .left, q .before .bad-place2 .ensures)))
 
 is-outside-requires : tie.Need-is-outside-requires
 is-outside-requires c κs = search needs
@@ -17,11 +89,10 @@ refuse-requires : tie.Need-refuse-requires
 refuse-requires c κs = search needs
 
 returns : tie.Need-returns
+unfolding checks
 returns c =
-    let a = c .before .before .before .before .before .args in
-    c .refuse .ensures
-    ∙ check-1 (a .c) (a .first .now) (a .second .now)
-    (sym (c .before .before .is-outside .ensures) ∙ c .before .if1 .taken)
+    let h = c .before .before in
+    c .refuse .ensures ∙ sym (from-first (h .before .before .before) ∙ applies _ _ _ (sym (h .is-outside .ensures) ∙ c .before .if1 .taken))
 
 is-outside-requires-2 : tie.Need-is-outside-requires-2
 is-outside-requires-2 c κs = search needs
@@ -30,12 +101,8 @@ refuse-requires-2 : tie.Need-refuse-requires-2
 refuse-requires-2 c κs = search needs
 
 returns-2 : tie.Need-returns-2
-returns-2 c =
-    let a = c .before .before .before .before .before .before .before .args in
-    c .refuse2 .ensures
-    ∙ check-2 (a .c) (a .first .now) (a .second .now)
-    (sym (c .before .before .before .before .is-outside .ensures) ∙ c .before .before .before .if1 .left)
-    (sym (c .before .before .is-outside2 .ensures) ∙ c .before .if2 .taken)
+unfolding checks
+returns-2 c = c .refuse2 .ensures ∙ sym (past-1 (c .before .before .before) ∙ applies _ _ _ (sym (c .before .before .is-outside2 .ensures) ∙ c .before .if2 .taken))
 
 is-outside-requires-3 : tie.Need-is-outside-requires-3
 is-outside-requires-3 c κs = search needs
@@ -44,13 +111,8 @@ refuse-requires-3 : tie.Need-refuse-requires-3
 refuse-requires-3 c κs = search needs
 
 returns-3 : tie.Need-returns-3
-returns-3 c =
-    let a = c .before .before .before .before .before .before .before .before .before .args in
-    c .refuse3 .ensures
-    ∙ check-3 (a .c) (a .first .now) (a .second .now)
-    (sym (c .before .before .before .before .before .before .is-outside .ensures) ∙ c .before .before .before .before .before .if1 .left)
-    (sym (c .before .before .before .before .is-outside2 .ensures) ∙ c .before .before .before .if2 .left)
-    (sym (c .before .before .is-outside3 .ensures) ∙ c .before .if3 .taken)
+unfolding checks
+returns-3 c = c .refuse3 .ensures ∙ sym (past-2 (c .before .before .before) ∙ applies _ _ _ (sym (c .before .before .is-outside3 .ensures) ∙ c .before .if3 .taken))
 
 is-outside-requires-4 : tie.Need-is-outside-requires-4
 is-outside-requires-4 c κs = search needs
@@ -59,43 +121,22 @@ refuse-requires-4 : tie.Need-refuse-requires-4
 refuse-requires-4 c κs = search needs
 
 returns-4 : tie.Need-returns-4
-returns-4 c =
-    let a = c .before .before .before .before .before .before .before .before .before .before .before .args in
-    c .refuse4 .ensures
-    ∙ check-4 (a .c) (a .first .now) (a .second .now)
-    (sym (c .before .before .before .before .before .before .before .before .is-outside .ensures) ∙ c .before .before .before .before .before .before .before .if1 .left)
-    (sym (c .before .before .before .before .before .before .is-outside2 .ensures) ∙ c .before .before .before .before .before .if2 .left)
-    (sym (c .before .before .before .before .is-outside3 .ensures) ∙ c .before .before .before .if3 .left)
-    (sym (c .before .before .is-outside4 .ensures) ∙ c .before .if4 .taken)
+unfolding checks
+returns-4 c = c .refuse4 .ensures ∙ sym (past-3 (c .before .before .before) ∙ applies _ _ _ (sym (c .before .before .is-outside4 .ensures) ∙ c .before .if4 .taken))
 
 refuse-requires-5 : tie.Need-refuse-requires-5
 refuse-requires-5 c κs = search needs
 
 returns-5 : tie.Need-returns-5
-returns-5 c =
-    let a = c .before .before .before .before .before .before .before .before .before .before .before .before .args in
-    c .refuse5 .ensures
-    ∙ check-5 (a .c) (a .first .now) (a .second .now)
-    (sym (c .before .before .before .before .before .before .before .before .before .is-outside .ensures) ∙ c .before .before .before .before .before .before .before .before .if1 .left)
-    (sym (c .before .before .before .before .before .before .before .is-outside2 .ensures) ∙ c .before .before .before .before .before .before .if2 .left)
-    (sym (c .before .before .before .before .before .is-outside3 .ensures) ∙ c .before .before .before .before .if3 .left)
-    (sym (c .before .before .before .is-outside4 .ensures) ∙ c .before .before .if4 .left)
-    (lt-ltb 16384 (length (a .first .now)) (c .before .if5 .taken))
+unfolding checks
+returns-5 c = c .refuse5 .ensures ∙ sym (past-4 (c .before .before) ∙ applies _ _ _ (lt-ltb 16384 (length (start4 (c .before .before) .args .first .now)) (c .before .if5 .taken)))
 
 refuse-requires-6 : tie.Need-refuse-requires-6
 refuse-requires-6 c κs = search needs
 
 returns-6 : tie.Need-returns-6
-returns-6 c =
-    let a = c .before .before .before .before .before .before .before .before .before .before .before .before .before .args in
-    c .refuse6 .ensures
-    ∙ check-6 (a .c) (a .first .now) (a .second .now)
-    (sym (c .before .before .before .before .before .before .before .before .before .before .is-outside .ensures) ∙ c .before .before .before .before .before .before .before .before .before .if1 .left)
-    (sym (c .before .before .before .before .before .before .before .before .is-outside2 .ensures) ∙ c .before .before .before .before .before .before .before .if2 .left)
-    (sym (c .before .before .before .before .before .before .is-outside3 .ensures) ∙ c .before .before .before .before .before .if3 .left)
-    (sym (c .before .before .before .before .is-outside4 .ensures) ∙ c .before .before .before .if4 .left)
-    (le-ltb 16384 (length (a .first .now)) (c .before .before .if5 .left))
-    (lt-ltb 16384 (length (a .second .now)) (c .before .if6 .taken))
+unfolding checks
+returns-6 c = c .refuse6 .ensures ∙ sym (past-5 (c .before .before) ∙ applies _ _ _ (lt-ltb 16384 (length (start5 (c .before .before) .args .second .now)) (c .before .if6 .taken)))
 
 bad-place-requires : tie.Need-bad-place-requires
 bad-place-requires c κs = search needs
@@ -104,17 +145,8 @@ refuse-requires-7 : tie.Need-refuse-requires-7
 refuse-requires-7 c κs = search needs
 
 returns-7 : tie.Need-returns-7
-returns-7 c =
-    let a = c .before .before .before .before .before .before .before .before .before .before .before .before .before .before .before .args in
-    c .refuse7 .ensures ∙ ap (refusal 6 1) (c .before .before .bad-place .ensures)
-    ∙ check-7 (a .c) (a .first .now) (a .second .now)
-    (sym (c .before .before .before .before .before .before .before .before .before .before .before .before .is-outside .ensures) ∙ c .before .before .before .before .before .before .before .before .before .before .before .if1 .left)
-    (sym (c .before .before .before .before .before .before .before .before .before .before .is-outside2 .ensures) ∙ c .before .before .before .before .before .before .before .before .before .if2 .left)
-    (sym (c .before .before .before .before .before .before .before .before .is-outside3 .ensures) ∙ c .before .before .before .before .before .before .before .if3 .left)
-    (sym (c .before .before .before .before .before .before .is-outside4 .ensures) ∙ c .before .before .before .before .before .if4 .left)
-    (le-ltb 16384 (length (a .first .now)) (c .before .before .before .before .if5 .left))
-    (le-ltb 16384 (length (a .second .now)) (c .before .before .before .if6 .left))
-    (lt-ltb 0 (badPlace (a .first .now)) (omega (arith, c .before .if7 .taken, c .before .before .bad-place .ensures)))
+unfolding checks
+returns-7 c = c .refuse7 .ensures ∙ ap (refusal 6 1) (c .before .before .bad-place .ensures) ∙ sym (past-6 (c .before .before .before) ∙ applies _ _ _ (lt-ltb 0 (badPlace (start6 (c .before .before .before) .args .first .now)) (omega (arith, c .before .if7 .taken, c .before .before .bad-place .ensures))))
 
 bad-place-requires-2 : tie.Need-bad-place-requires-2
 bad-place-requires-2 c κs = search needs
@@ -123,35 +155,15 @@ refuse-requires-8 : tie.Need-refuse-requires-8
 refuse-requires-8 c κs = search needs
 
 returns-8 : tie.Need-returns-8
-returns-8 c =
-    let a = c .before .before .before .before .before .before .before .before .before .before .before .before .before .before .before .before .before .args in
-    c .refuse8 .ensures ∙ ap (refusal 6 2) (c .before .before .bad-place2 .ensures)
-    ∙ check-8 (a .c) (a .first .now) (a .second .now)
-    (sym (c .before .before .before .before .before .before .before .before .before .before .before .before .before .before .is-outside .ensures) ∙ c .before .before .before .before .before .before .before .before .before .before .before .before .before .if1 .left)
-    (sym (c .before .before .before .before .before .before .before .before .before .before .before .before .is-outside2 .ensures) ∙ c .before .before .before .before .before .before .before .before .before .before .before .if2 .left)
-    (sym (c .before .before .before .before .before .before .before .before .before .before .is-outside3 .ensures) ∙ c .before .before .before .before .before .before .before .before .before .if3 .left)
-    (sym (c .before .before .before .before .before .before .before .before .is-outside4 .ensures) ∙ c .before .before .before .before .before .before .before .if4 .left)
-    (le-ltb 16384 (length (a .first .now)) (c .before .before .before .before .before .before .if5 .left))
-    (le-ltb 16384 (length (a .second .now)) (c .before .before .before .before .before .if6 .left))
-    (le-ltb 0 (badPlace (a .first .now)) (omega (arith, c .before .before .before .if7 .left, c .before .before .before .before .bad-place .ensures)))
-    (lt-ltb 0 (badPlace (a .second .now)) (omega (arith, c .before .if8 .taken, c .before .before .bad-place2 .ensures)))
+unfolding checks
+returns-8 c = c .refuse8 .ensures ∙ ap (refusal 6 2) (c .before .before .bad-place2 .ensures) ∙ sym (past-7 (c .before .before .before) ∙ applies _ _ _ (lt-ltb 0 (badPlace (start7 (c .before .before .before) .args .second .now)) (omega (arith, c .before .if8 .taken, c .before .before .bad-place2 .ensures))))
 
 refuse-requires-9 : tie.Need-refuse-requires-9
 refuse-requires-9 c κs = search needs
 
 returns-9 : tie.Need-returns-9
-returns-9 c =
-    let a = c .before .before .before .before .before .before .before .before .before .before .before .before .before .before .before .before .before .args in
-    c .refuse9 .ensures
-    ∙ check-9 (a .c) (a .first .now) (a .second .now)
-    (sym (c .before .before .before .before .before .before .before .before .before .before .before .before .before .before .is-outside .ensures) ∙ c .before .before .before .before .before .before .before .before .before .before .before .before .before .if1 .left)
-    (sym (c .before .before .before .before .before .before .before .before .before .before .before .before .is-outside2 .ensures) ∙ c .before .before .before .before .before .before .before .before .before .before .before .if2 .left)
-    (sym (c .before .before .before .before .before .before .before .before .before .before .is-outside3 .ensures) ∙ c .before .before .before .before .before .before .before .before .before .if3 .left)
-    (sym (c .before .before .before .before .before .before .before .before .is-outside4 .ensures) ∙ c .before .before .before .before .before .before .before .if4 .left)
-    (le-ltb 16384 (length (a .first .now)) (c .before .before .before .before .before .before .if5 .left))
-    (le-ltb 16384 (length (a .second .now)) (c .before .before .before .before .before .if6 .left))
-    (le-ltb 0 (badPlace (a .first .now)) (omega (arith, c .before .before .before .if7 .left, c .before .before .before .before .bad-place .ensures)))
-    (le-ltb 0 (badPlace (a .second .now)) (omega (arith, c .before .if8 .left, c .before .before .bad-place2 .ensures)))
+unfolding checks firstOf
+returns-9 c = c .refuse9 .ensures ∙ sym (past-8 (c .before))
 
 pub check-spec : {M : Type 1} → statement M
 check-spec =

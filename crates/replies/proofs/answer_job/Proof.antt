@@ -13,6 +13,10 @@ use Rattle.replies.proofs.answer_job.Tie as tie
 as-output : (lines output old left : List ℕ) (n : ℕ) → lines ≡ output → n ≡ length lines → left ≡ inFront lines old → (n ≡ length output) × (left ≡ inFront output old)
 as-output lines output old left n e a b = (a ∙ ap length e, b ∙ ap (λ (l : List ℕ). inFront l old) e)
 
+-- the start, from where the job is compared
+abbrev start : tie.After-compare → tie.Start
+start p = p .before .before .before .before .before .before
+
 slice-aggregate-compare : tie.Need-slice-aggregate-compare
 slice-aggregate-compare c = search needs
 
@@ -25,8 +29,9 @@ compare-requires c κs = search needs
 put-refused-requires : tie.Need-put-refused-requires
 unfolding refusedOf
 put-refused-requires c κs =
-    let x = c .before .before .before .before .before .compare in
-    let s = c .before .before .before .before .before .before .before .before .before .before .before in
+    let p = c .before .before .before .before .before in
+    let x = p .compare in
+    let s = start p in
     let a = s .args in
     (refused-fits (a .c) (a .first .now) (a .second .now) (x .result) (x .ensures .0) (c .before .if1 .taken), s .pre)
 
@@ -36,19 +41,22 @@ same-length c = search needs
 returns : tie.Need-returns
 unfolding refusedOf
 returns c =
-    let r = c .before .before .put-refused in
-    let x = c .before .before .before .before .before .before .before .before .compare in
-    let s = c .before .before .before .before .before .before .before .before .before .before .before .before .before .before in
-    let a = s .args in
-    as-output _ _ _ _ _ (refused-output (a .c) (a .first .now) (a .second .now) (x .result) (x .ensures .0) (c .before .before .before .before .if1 .taken)) (r .ensures .0) (r .ensures .1)
+    let written = c .before .before in
+    let refused = written .before .before in
+    let p = refused .before .before .before .before in
+    let r = written .put-refused in
+    let x = p .compare in
+    let a = start p .args in
+    as-output _ _ _ _ _ (refused-output (a .c) (a .first .now) (a .second .now) (x .result) (x .ensures .0) (refused .if1 .taken)) (r .ensures .0) (r .ensures .1)
 
 slice-aggregate-put-listing : tie.Need-slice-aggregate-put-listing
 slice-aggregate-put-listing c = search needs
 
 put-listing-requires : tie.Need-put-listing-requires
 put-listing-requires c κs =
-    let x = c .before .before .before .before .before .before .compare in
-    let s = c .before .before .before .before .before .before .before .before .before .before .before .before in
+    let p = c .before .before .before .before .before .before in
+    let x = p .compare in
+    let s = start p in
     let a = s .args in
     listing-safe (a .c) (a .first .now) (a .second .now) (x .result) (x .last .1 .1 .1 .1 .0) (x .ensures .0) (x .ensures .1 .1) (c .before .before .if1 .left) _ (s .pre)
 
@@ -57,11 +65,13 @@ same-length-2 c = search needs
 
 returns-2 : tie.Need-returns-2
 returns-2 c =
-    let r = c .before .before .put-listing in
-    let x = c .before .before .before .before .before .before .before .before .before .compare in
-    let s = c .before .before .before .before .before .before .before .before .before .before .before .before .before .before .before in
-    let a = s .args in
-    as-output _ _ _ _ _ (listing-output (a .c) (a .first .now) (a .second .now) (x .result) (x .last .1 .1 .1 .1 .0) (x .ensures .0) (x .ensures .1 .1) (c .before .before .before .before .before .if1 .left)) (r .ensures .0) (r .ensures .1)
+    let written = c .before .before in
+    let accepted = written .before .before .before in
+    let p = accepted .before .before .before .before in
+    let r = written .put-listing in
+    let x = p .compare in
+    let a = start p .args in
+    as-output _ _ _ _ _ (listing-output (a .c) (a .first .now) (a .second .now) (x .result) (x .last .1 .1 .1 .1 .0) (x .ensures .0) (x .ensures .1 .1) (accepted .if1 .left)) (r .ensures .0) (r .ensures .1)
 
 pub answer-job-spec : {M : Type 1} → statement M
 answer-job-spec =

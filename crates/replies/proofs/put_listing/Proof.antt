@@ -6,6 +6,10 @@ use borrow.Author.Needs.{needs}
 use Rattle.replies.proofs.put_listing.Statement.{statement}
 use Rattle.replies.proofs.put_listing.Tie as tie
 
+-- the start, from where the entries are put
+abbrev start : tie.After-put-entries → tie.Start
+start p = p .before .before .before .before .before
+
 size-requires : tie.Need-size-requires
 size-requires c κs = search needs
 
@@ -14,9 +18,10 @@ put-entries-requires c κs = entries-asked _ _ _ _ (c .before .before .before .b
 
 sub-write-done : tie.Need-sub-write-done
 sub-write-done c =
-    let e = c .before .before .put-entries in
-    let z = c .before .before .before .before .size in
-    let s = c .before .before .before .before .before .before .before in
+    let p = c .before .before in
+    let e = p .put-entries in
+    let z = p .before .before .size in
+    let s = start p in
     let a = s .args in
     done-inside (a .list .now) (a .output .now) (e .last .1 .1 .0) (a .x) (z .result) (e .result) (s .pre) (z .ensures) (e .ensures .0) (e .ensures .1)
 
@@ -32,10 +37,12 @@ write-done-requires c κs = search needs
 add-result : tie.Need-add-result
 unfolding doneOf
 add-result c =
-    let w = c .before .before .before .write-done in
-    let e = c .before .before .before .before .before .before .before .put-entries in
-    let z = c .before .before .before .before .before .before .before .before .before .size in
-    let s = c .before .before .before .before .before .before .before .before .before .before .before .before in
+    let written = c .before .before .before in
+    let p = written .before .before .before .before in
+    let w = written .write-done in
+    let e = p .put-entries in
+    let z = p .before .before .size in
+    let s = start p in
     let a = s .args in
     omega (arith, done-fits-word (a .list .now) (a .output .now) (e .last .1 .1 .0) (a .x) (z .result) (e .result) (s .pre) (z .ensures) (e .ensures .0) (e .ensures .1) (w .last .1 .0) (w .result) (w .ensures .0) (w .ensures .1))
 
@@ -45,10 +52,12 @@ same-length c = search needs
 returns : tie.Need-returns
 unfolding doneOf
 returns c =
-    let w = c .before .before .before .write-done in
-    let e = c .before .before .before .before .before .before .before .put-entries in
-    let z = c .before .before .before .before .before .before .before .before .before .size in
-    let s = c .before .before .before .before .before .before .before .before .before .before .before .before in
+    let written = c .before .before .before in
+    let p = written .before .before .before .before in
+    let w = written .write-done in
+    let e = p .put-entries in
+    let z = p .before .before .size in
+    let s = start p in
     let a = s .args in
     listing-written (a .list .now) (a .output .now) (e .last .1 .1 .0) (a .x) (z .result) (e .result) (s .pre) (z .ensures) (e .ensures .0) (e .ensures .1) (w .last .1 .0) (w .result) (w .ensures .0) (w .ensures .1)
 

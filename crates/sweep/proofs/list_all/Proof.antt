@@ -8,6 +8,13 @@ use borrow.Author.Needs.{needs}
 use Rattle.sweep.proofs.list_all.Statement.{statement}
 use Rattle.sweep.proofs.list_all.Tie as tie
 
+-- the places that are spoken of: the start, and the sweep from where the last rows are to be released
+abbrev start : tie.After-sweep → tie.Start
+start d = d .before .before .before .before .before .before .before .before
+
+abbrev swept : tie.After-wide → tie.After-sweep
+swept w = w .before .before .before .before .before .before
+
 slice-aggregate-sweep : tie.Need-slice-aggregate-sweep
 slice-aggregate-sweep c = search needs
 
@@ -18,18 +25,18 @@ wide-requires : tie.Need-wide-requires
 wide-requires c κs = search needs
 
 add-last : tie.Need-add-last
-add-last c = omega (arith, c .wide .ensures .1, c .before .before .before .before .before .before .before .before .before .before .before .before .before .before .pre .walks .few-rows)
+add-last c = omega (arith, c .wide .ensures .1, start (swept c) .pre .walks .few-rows)
 
 add-last-2 : tie.Need-add-last-2
-add-last-2 c = omega (arith, c .wide .ensures .1, c .before .before .before .before .before .before .before .before .before .before .before .before .before .before .pre .walks .few-rows)
+add-last-2 c = omega (arith, c .wide .ensures .1, start (swept c) .pre .walks .few-rows)
 
 slice-aggregate-release : tie.Need-slice-aggregate-release
 slice-aggregate-release c = search needs
 
 release-requires : tie.Need-release-requires
 release-requires c κs =
-    let d = c .before .before .before .before .before .before .before .before .before in
-    let s = d .before .before .before .before .before .before .before .before in
+    let d = swept (c .before .before .before) in
+    let s = start d in
     let a = s .args in
     last-safe (a .firsts .now) (a .nexts .now) (a .room .now) (a .ring) (a .c) (s .pre) (d .sweep .last .1 .1 .0) (d .sweep .last .1 .1 .1 .0) (d .sweep .last .1 .1 .1 .1 .1 .1 .0) (d .sweep .result) (d .sweep .ensures) (d .sweep .kept .1 .1 .0)
 
@@ -43,8 +50,8 @@ returns : tie.Need-returns
 returns c =
     let e = c .before .before in
     let w = e .before .before .before .before in
-    let d = w .before .before .before .before .before .before in
-    let s = d .before .before .before .before .before .before .before .before in
+    let d = swept w in
+    let s = start d in
     let a = s .args in
     lists-all (a .firsts .now) (a .nexts .now) (a .room .now) (a .ring) (a .c) (s .pre) (d .sweep .last .1 .1 .0) (d .sweep .last .1 .1 .1 .0) (d .sweep .last .1 .1 .1 .1 .1 .1 .0) (d .sweep .result) (d .sweep .ensures)
     (length (a .firsts .now) + w .wide .result + 1) (ap (λ (b : ℕ). length (a .firsts .now) + b + 1) (w .wide .ensures .0)) (e .release .last .1 .1 .1 .1 .1 .1 .1 .0) (e .release .result) (e .release .ensures)

@@ -16,6 +16,13 @@ Inv-loop firsts nexts room₀ latest₀ ring c list₀ b tail₀ head₀ from₀
 abbrev μ-loop : tie.MeasureT-loop
 μ-loop firsts nexts room₀ latest₀ ring c list₀ b tail₀ head₀ from₀ listed₀ k₀ room latest list tail head from listed k = length firsts - k
 
+-- the places that are spoken of: the start, and in the loop where the row's first column is read, from where the rows before are released
+abbrev start : tie.After-wide Inv-loop μ-loop → tie.Start Inv-loop μ-loop
+start w = w .before .before .before .before .before .before
+
+abbrev reading : tie.After-release Inv-loop μ-loop → tie.After-wide2 Inv-loop μ-loop
+reading d = d .before .before .before .before
+
 wide-requires : tie.Need-wide-requires Inv-loop μ-loop
 wide-requires c κs = search needs
 
@@ -34,60 +41,51 @@ wide-requires-2 c κs = search needs
 add-k : tie.Need-add-k Inv-loop μ-loop
 add-k c =
     let n = c .before .before in
-    let l = n .before in
-    let w = l .before in
-    let s = w .before .before .before .before .before .before in
-    let a = s .args in
-    let v = l .loop in
-    let z = n .loop-test .taken in omega (arith, s .pre .0 .walks .few-rows)
+    omega (arith, n .loop-test .taken, start (n .before .before) .pre .0 .walks .few-rows)
 
 release-requires : tie.Need-release-requires Inv-loop μ-loop
 release-requires c κs =
     let n = c .before .before .before .before .before in
     let l = n .before in
-    let w = l .before in
-    let s = w .before .before .before .before .before .before in
+    let s = start (l .before) in
     let a = s .args in
     let v = l .loop in
     release-safe (a .firsts .now) (a .nexts .now) (a .room .now) (a .latest .now) (a .list .now) (a .ring) (a .c) (s .pre .0) (s .pre .1) (v .room) (v .latest) (v .list) (v .tail) (v .head) (v .from) (v .listed) (v .k) (v .inv) (n .loop-test .taken)
 
 store-row-requires : tie.Need-store-row-requires Inv-loop μ-loop
 store-row-requires c κs =
-    let n = c .before .before .before .before .before .before .before .before .before .before in
+    let w = reading (c .before .before .before .before) in
+    let n = w .before .before in
     let l = n .before in
-    let w = l .before in
-    let s = w .before .before .before .before .before .before in
+    let s = start (l .before) in
     let a = s .args in
     let v = l .loop in
-    row-safe (a .firsts .now) (a .nexts .now) (a .room .now) (a .latest .now) (a .list .now) (a .ring) (a .c) (s .pre .0) (s .pre .1) (v .room) (v .latest) (v .list) (v .tail) (v .head) (v .from) (v .listed) (v .k) (v .inv) (n .loop-test .taken) (c .before .before .before .before .before .before .before .before .wide2 .result) (c .before .before .before .before .before .before .before .before .wide2 .ensures .0)
+    row-safe (a .firsts .now) (a .nexts .now) (a .room .now) (a .latest .now) (a .list .now) (a .ring) (a .c) (s .pre .0) (s .pre .1) (v .room) (v .latest) (v .list) (v .tail) (v .head) (v .from) (v .listed) (v .k) (v .inv) (n .loop-test .taken) (w .wide2 .result) (w .wide2 .ensures .0)
 
 later-from-requires : tie.Need-later-from-requires Inv-loop μ-loop
 later-from-requires c κs = search needs
 
 loop-less : tie.Need-loop-less Inv-loop μ-loop
 loop-less c =
-    let n = c .before .before .before .before .before .before .before .before .before .before .before .before .before .before .before .before in
-    let l = n .before in
-    let w = l .before in
-    let s = w .before .before .before .before .before .before in
-    let a = s .args in
-    let v = l .loop in
-    let z = n .loop-test .taken in omega arith
+    let e = c .before .before .before .before .before in
+    let d = e .before .before .before .before .before in
+    omega (arith, reading d .before .before .loop-test .taken)
 
 loop-again : tie.Need-loop-again Inv-loop μ-loop
 loop-again c =
-    let n = c .before .before .before .before .before .before .before .before .before .before .before .before .before .before .before .before in
-    let l = n .before in
-    let w = l .before in
-    let s = w .before .before .before .before .before .before in
-    let a = s .args in
-    let v = l .loop in
     let e = c .before .before .before .before .before in
     let d = e .before .before .before .before .before in
+    let r = reading d in
+    let n = r .before .before in
+    let l = n .before in
+    let w = l .before in
+    let s = start w in
+    let a = s .args in
+    let v = l .loop in
     subst⁻¹ (λ (f : ℕ). SweepInv (a .firsts .now) (a .nexts .now) (a .room .now) (a .latest .now) (a .list .now) (a .ring) (a .c) (e .store-row .last .1 .1 .0) (e .store-row .last .1 .1 .1 .0) (d .release .last .1 .1 .1 .1 .1 .1 .1 .0) (d .release .result .tail) (e .store-row .result) f (d .release .result .listed) (v .k + 1))
     (c .later-from .ensures)
-    (sweep-next (a .firsts .now) (a .nexts .now) (a .room .now) (a .latest .now) (a .list .now) (a .ring) (a .c) (s .pre .0) (s .pre .1) (v .room) (v .latest) (v .list) (v .tail) (v .head) (v .from) (v .listed) (v .k) (v .inv) (n .loop-test .taken) (d .before .before .before .before .wide2 .result) (d .before .before .before .before .wide2 .ensures .0) (d .release .last .1 .1 .1 .1 .1 .1 .1 .0) (d .release .result) (d .release .ensures) (e .store-row .last .1 .1 .0) (e .store-row .last .1 .1 .1 .0) (e .store-row .result) (e .store-row .kept .1 .1 .0) (e .store-row .kept .1 .1 .1 .0)
-    (subst (λ (b : ℕ). RowDone b (v .k + 1) (v .room) (v .latest) (a .nexts .now) (a .ring) (d .release .result .tail) (v .head) (v .from) (d .before .before .before .before .wide2 .result) (e .store-row .last .1 .1 .0) (e .store-row .last .1 .1 .1 .0) (e .store-row .result)) (w .wide .ensures .0) (e .store-row .ensures)))
+    (sweep-next (a .firsts .now) (a .nexts .now) (a .room .now) (a .latest .now) (a .list .now) (a .ring) (a .c) (s .pre .0) (s .pre .1) (v .room) (v .latest) (v .list) (v .tail) (v .head) (v .from) (v .listed) (v .k) (v .inv) (n .loop-test .taken) (r .wide2 .result) (r .wide2 .ensures .0) (d .release .last .1 .1 .1 .1 .1 .1 .1 .0) (d .release .result) (d .release .ensures) (e .store-row .last .1 .1 .0) (e .store-row .last .1 .1 .1 .0) (e .store-row .result) (e .store-row .kept .1 .1 .0) (e .store-row .kept .1 .1 .1 .0)
+    (subst (λ (b : ℕ). RowDone b (v .k + 1) (v .room) (v .latest) (a .nexts .now) (a .ring) (d .release .result .tail) (v .head) (v .from) (r .wide2 .result) (e .store-row .last .1 .1 .0) (e .store-row .last .1 .1 .1 .0) (e .store-row .result)) (w .wide .ensures .0) (e .store-row .ensures)))
 
 same-length : tie.Need-same-length Inv-loop μ-loop
 same-length c = c .before .loop .inv .long
@@ -101,7 +99,7 @@ same-length-3 c = c .before .loop .inv .size
 returns : tie.Need-returns Inv-loop μ-loop
 returns c =
     let l = c .before in
-    let s = l .before .before .before .before .before .before .before in
+    let s = start (l .before) in
     let a = s .args in
     let v = l .loop in
     sweep-end (a .firsts .now) (a .nexts .now) (a .room .now) (a .latest .now) (a .list .now) (a .ring) (a .c) (s .pre .0) (s .pre .1) (v .room) (v .latest) (v .list) (v .tail) (v .head) (v .from) (v .listed) (v .k) (v .inv) (c .loop-test .left)
