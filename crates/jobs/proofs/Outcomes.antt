@@ -46,9 +46,9 @@ sweep-safe firsts nexts work c widest w h s n =
     }
 
 -- where W is 0 nothing is listed
-pub lists-none : (firsts nexts list : List ℕ) (c : Settings) (widest : ℕ) → widest ≡ 0 → Lists firsts nexts widest c list 0
+pub lists-none : {firsts nexts list : List ℕ} {c : Settings} {widest : ℕ} → widest ≡ 0 → Lists firsts nexts widest c list 0
 unfolding keep laid recordsFrom
-lists-none firsts nexts list c widest z = record { entered = go }
+lists-none {firsts} {nexts} {list} {c} {widest} z = record { entered = go }
   where
     go : (hit : Cell → Bool) (columns : ℕ) → Described hit columns firsts nexts → widest ≡ largestRun (c .b) (matchesTo hit columns (length firsts)) (length firsts)
         → ListedTo c (matchesTo hit columns (length firsts)) (recordsFrom (c .b) [] (matchesTo hit columns (length firsts))) list 0
@@ -56,8 +56,8 @@ lists-none firsts nexts list c widest z = record { entered = go }
         subst⁻¹ (λ (cells : List Cell). ListedTo c cells (recordsFrom (c .b) [] cells) list 0) (none-needed (c .b) hit columns (length firsts) (sym e ∙ z))
         (record { counted = refl; entries = λ h. refl })
 
-pub lists-swept : (firsts nexts list : List ℕ) (c : Settings) (widest n : ℕ) → ListsAll firsts nexts (record { size = widest; origin = 0 }) c list n → Lists firsts nexts widest c list n
-lists-swept firsts nexts list c widest n a =
+pub lists-swept : {firsts nexts list : List ℕ} {c : Settings} {widest n : ℕ} → ListsAll firsts nexts (record { size = widest; origin = 0 }) c list n → Lists firsts nexts widest c list n
+lists-swept a =
     record { entered = λ hit columns d e. a .entered hit columns (record { described = d; enough = le-of-eq (sym e) }) }
 
 -- ---- the run of a row
@@ -74,15 +74,15 @@ front-safe firsts nexts c row w h =
     starts p (equal q) = let e = List·getD-eq-default (take row firsts) 0 {n = p} (let l = length-take-le row firsts h in omega arith) in omega arith
     starts p (above q) = let e = List·getD-eq-default (take row firsts) 0 {n = p} (let l = length-take-le row firsts h in omega arith) in omega arith
 
-pub hold-safe : (firsts nexts work : List ℕ) (c : Settings) (widest before row : ℕ) (ring : Ring) → Walked firsts nexts c → 8 * widest ≤ length work → row ≤ length firsts
+pub hold-safe : (row : ℕ) {firsts nexts work : List ℕ} {c : Settings} {widest before : ℕ} {ring : Ring} → Walked firsts nexts c → 8 * widest ≤ length work → row ≤ length firsts
     → RingFrom widest before ring → SweepSafe (take row firsts) nexts work ring c
-hold-safe firsts nexts work c widest before row ring w h l r =
+hold-safe row {firsts} {nexts} {c = c} w h l r =
     let e = r .sized in
     record { fits = r .fits; room-for = omega arith; walks = front-safe firsts nexts c row w l; wide = w .wide; some-base = w .some-base; few-bases = w .few-bases }
 
-pub holds-none : (firsts nexts work work′ : List ℕ) (c : Settings) (widest row : ℕ) → widest ≡ 0 → work′ ≡ zeros work → Holds firsts nexts widest c row work work′ 0
+pub holds-none : {firsts nexts work work′ : List ℕ} {c : Settings} {widest row : ℕ} → widest ≡ 0 → work′ ≡ zeros work → Holds firsts nexts widest c row work work′ 0
 unfolding runOf keep laid recordsFrom thenZeros zeros
-holds-none firsts nexts work work′ c widest row z e = record { held = go }
+holds-none {firsts} {nexts} {work} {work′} {c} {widest} {row} z e = record { held = go }
   where
     go : (hit : Cell → Bool) (columns : ℕ) → Described hit columns firsts nexts → widest ≡ largestRun (c .b) (matchesTo hit columns (length firsts)) (length firsts)
         → (0 ≡ length (runOf c (matchesTo hit columns (length firsts)) row))
@@ -93,10 +93,10 @@ holds-none firsts nexts work work′ c widest row z e = record { held = go }
         (none-needed (c .b) hit columns (length firsts) (sym q ∙ z))
         (refl, e ∙ sym (ap (λ (m : ℕ). replicate m 0) n))
 
-pub holds-swept : (firsts nexts work work′ : List ℕ) (c : Settings) (widest row last before n : ℕ) (ring : Ring) → row ≤ length firsts → last ≡ row - c .b - 1
+pub holds-swept : {firsts nexts work work′ : List ℕ} {c : Settings} {widest row last before n : ℕ} {ring : Ring} → row ≤ length firsts → last ≡ row - c .b - 1
     → MatchedBefore firsts nexts last before → RingFrom widest before ring → HoldsRun (take row firsts) nexts ring c work work′ n → Holds firsts nexts widest c row work work′ n
 unfolding runOf
-holds-swept firsts nexts work work′ c widest row last before n ring h el mb rf run = record { held = go }
+holds-swept {firsts} {nexts} {work} {work′} {c} {widest} {row} {last} {before} {n} {ring} h el mb rf run = record { held = go }
   where
     len : length (take row firsts) ≡ row
     len = length-take-le row firsts h
@@ -179,54 +179,51 @@ room-for : (list : List ℕ) (n : ℕ) → n ≤ listHolds list → 5 * n ≤ le
 unfolding listHolds
 room-for list n h = omega arith
 
-module _ (firsts nexts : List ℕ) (c : Settings) (work list : List ℕ) (b : ℕ) (eb : b ≡ c .b) (counts : Counts) (n : Counted firsts nexts b counts) where
-  counted : (hit : Cell → Bool) (columns : ℕ) → Described hit columns firsts nexts
-      → (counts .matches ≡ length (matchesTo hit columns (length firsts))) × (counts .widest ≡ largestRun (c .b) (matchesTo hit columns (length firsts)) (length firsts))
-  counted hit columns d =
-      let e = n .exact hit columns d in
-      (e .0, e .1 ∙ ap (λ (q : ℕ). largestRun q (matchesTo hit columns (length firsts)) (length firsts)) eb)
+-- M and W, as they were counted with b
+counted : {firsts nexts : List ℕ} (c : Settings) {b : ℕ} → b ≡ c .b → {counts : Counts} → Counted firsts nexts b counts → (hit : Cell → Bool) (columns : ℕ) → Described hit columns firsts nexts
+    → (counts .matches ≡ length (matchesTo hit columns (length firsts))) × (counts .widest ≡ largestRun (c .b) (matchesTo hit columns (length firsts)) (length firsts))
+counted {firsts} c eb n hit columns d =
+    let e = n .exact hit columns d in
+    (e .0, e .1 ∙ ap (λ (q : ℕ). largestRun q (matchesTo hit columns (length firsts)) (length firsts)) eb)
 
-  pub compare-7 : (work′ list′ : List ℕ) (r : Answer) → workHolds work < counts .widest → r ≡ refusal 7 0 (counts .widest) → work′ ≡ zeros work → list′ ≡ zeros list
+module _ {firsts nexts : List ℕ} {c : Settings} {work list : List ℕ} {b : ℕ} (eb : b ≡ c .b) {counts : Counts} (n : Counted firsts nexts b counts) where
+  pub compare-7 : {work′ list′ : List ℕ} {r : Answer} → workHolds work < counts .widest → r ≡ refusal 7 0 (counts .widest) → work′ ≡ zeros work → list′ ≡ zeros list
       → ComparesMatches firsts nexts c work list work′ list′ r
   unfolding zeroed
-  compare-7 work′ list′ r h er ew el =
+  compare-7 h er ew el =
       record {
         outcome = λ hit columns d.
-            let e = counted hit columns d .1 in
+            let e = counted c eb n hit columns d .1 in
             outcome-path (er ∙ ap (refusal 7 0) e) ew el ∙ table-7 c (matchesTo hit columns (length firsts)) (length firsts) work list (omega arith);
       }
 
-  module _ (work₁ list₁ : List ℕ) (listed : ℕ) (h : counts .widest ≤ workHolds work) (lw : length work₁ ≡ length work) (ll : length list₁ ≡ length list)
+  module _ (work₁ : List ℕ) {list₁ : List ℕ} {listed : ℕ} (h : counts .widest ≤ workHolds work) (lw : length work₁ ≡ length work) (ll : length list₁ ≡ length list)
       (a : Lists firsts nexts (counts .widest) c list₁ listed) where
-    entered : (hit : Cell → Bool) (columns : ℕ) → Described hit columns firsts nexts
-        → ListedTo c (matchesTo hit columns (length firsts)) (recordsFrom (c .b) [] (matchesTo hit columns (length firsts))) list₁ listed
-    entered hit columns d = a .entered hit columns d (counted hit columns d .1)
-
-    pub compare-8 : (work′ list′ : List ℕ) (r : Answer) → listHolds list₁ < listed → r ≡ refusal 8 0 listed → work′ ≡ zeros work₁ → list′ ≡ zeros list₁
+    pub compare-8 : {work′ list′ : List ℕ} {r : Answer} → listHolds list₁ < listed → r ≡ refusal 8 0 listed → work′ ≡ zeros work₁ → list′ ≡ zeros list₁
         → ComparesMatches firsts nexts c work list work′ list′ r
     unfolding zeroed listingOf
-    compare-8 work′ list′ r g er ew el =
+    compare-8 g er ew el =
         record {
           outcome = λ hit columns d.
-              let e = counted hit columns d .1 in
-              let z = entered hit columns d .counted in
+              let e = counted c eb n hit columns d .1 in
+              let z = a .entered hit columns d e .counted in
               let s = holds-same list₁ list ll in
               outcome-path (er ∙ ap (refusal 8 0) z) (ew ∙ zeros-same work₁ work lw) (el ∙ zeros-same list₁ list ll)
               ∙ table-8 c (matchesTo hit columns (length firsts)) (length firsts) work list (omega arith) (omega arith);
         }
 
-    pub compare-0 : (work′ list′ : List ℕ) (r : Answer) (links : ℕ) → listed ≤ listHolds list₁ → Linked firsts nexts b links
+    pub compare-0 : {work′ list′ : List ℕ} {r : Answer} {links : ℕ} → listed ≤ listHolds list₁ → Linked firsts nexts b links
         → r ≡ doneWith listed (counts .matches) (counts .widest) links → work′ ≡ zeros work₁ → list′ ≡ take (5 * listed) list₁ ++ replicate (length list₁ - 5 * listed) 0
         → ComparesMatches firsts nexts c work list work′ list′ r
     unfolding doneWith listingOf thenZeros
-    compare-0 work′ list′ r links g l er ew el = record { outcome = go }
+    compare-0 {work′} {list′} {r} {links} g l er ew el = record { outcome = go }
       where
         go : (hit : Cell → Bool) (columns : ℕ) → Described hit columns firsts nexts
             → _≡_ {A = Outcome} (record { answer = r; work = work′; list = list′ }) (comparedOf c (matchesTo hit columns (length firsts)) (length firsts) work list)
         go hit columns d =
             let cells = matchesTo hit columns (length firsts) in
-            let n = counted hit columns d in
-            let v = entered hit columns d in
+            let n = counted c eb n hit columns d in
+            let v = a .entered hit columns d (n .1) in
             let s = holds-same list₁ list ll in
             let k : links ≡ pairs (c .b) cells = l .exact hit columns d ∙ ap (λ (q : ℕ). pairs q cells) eb in
             let z = v .counted in
@@ -242,37 +239,37 @@ module _ (firsts nexts : List ℕ) (c : Settings) (work list : List ℕ) (b : �
 
 -- ---- the stopped sweep
 
-module _ (firsts nexts : List ℕ) (c : Settings) (work : List ℕ) (row b : ℕ) (eb : b ≡ c .b) (counts : Counts) (n : Counted firsts nexts b counts) where
-  pub stopped-7 : (work′ : List ℕ) (r : Answer) → workHolds work < counts .widest → r ≡ refusal 7 0 (counts .widest) → work′ ≡ zeros work → StopsMatches firsts nexts c row work work′ r
+module _ {firsts nexts : List ℕ} {c : Settings} {work : List ℕ} {row b : ℕ} (eb : b ≡ c .b) {counts : Counts} (n : Counted firsts nexts b counts) where
+  pub stopped-7 : {work′ : List ℕ} {r : Answer} → workHolds work < counts .widest → r ≡ refusal 7 0 (counts .widest) → work′ ≡ zeros work → StopsMatches firsts nexts c row work work′ r
   unfolding zeroed zeros
-  stopped-7 work′ r h er ew =
+  stopped-7 h er ew =
       record {
         outcome = λ hit columns d.
-            let e = counted firsts nexts c work [] b eb counts n hit columns d .1 in
+            let e = counted c eb n hit columns d .1 in
             outcome-path (er ∙ ap (refusal 7 0) e) ew refl ∙ stop-7 c (matchesTo hit columns (length firsts)) (length firsts) work row (omega arith);
       }
 
-  pub stopped-19 : (work′ : List ℕ) (r : Answer) → counts .widest ≤ workHolds work → length firsts < row → r ≡ refusal 19 0 (length firsts) → work′ ≡ zeros work
+  pub stopped-19 : {work′ : List ℕ} {r : Answer} → counts .widest ≤ workHolds work → length firsts < row → r ≡ refusal 19 0 (length firsts) → work′ ≡ zeros work
       → StopsMatches firsts nexts c row work work′ r
   unfolding zeroed zeros
-  stopped-19 work′ r h g er ew =
+  stopped-19 h g er ew =
       record {
         outcome = λ hit columns d.
-            let e = counted firsts nexts c work [] b eb counts n hit columns d .1 in
+            let e = counted c eb n hit columns d .1 in
             outcome-path er ew refl ∙ stop-19 c (matchesTo hit columns (length firsts)) (length firsts) work row (omega arith) g;
       }
 
-  pub stopped-0 : (work′ : List ℕ) (r : Answer) (held links : ℕ) → counts .widest ≤ workHolds work → row ≤ length firsts
+  pub stopped-0 : {work′ : List ℕ} {r : Answer} {held links : ℕ} → counts .widest ≤ workHolds work → row ≤ length firsts
       → Holds firsts nexts (counts .widest) c row work work′ held → Linked firsts nexts b links → r ≡ doneWith held (counts .matches) (counts .widest) links
       → StopsMatches firsts nexts c row work work′ r
   unfolding doneWith
-  stopped-0 work′ r held links h g a l er = record { outcome = go }
+  stopped-0 {work′} {r} {held} {links} h g a l er = record { outcome = go }
     where
       go : (hit : Cell → Bool) (columns : ℕ) → Described hit columns firsts nexts
           → _≡_ {A = Outcome} (record { answer = r; work = work′; list = [] }) (stoppedOf c (matchesTo hit columns (length firsts)) (length firsts) work row)
       go hit columns d =
           let cells = matchesTo hit columns (length firsts) in
-          let m = counted firsts nexts c work [] b eb counts n hit columns d in
+          let m = counted c eb n hit columns d in
           let v = a .held hit columns d (m .1) in
           let k : links ≡ pairs (c .b) cells = l .exact hit columns d ∙ ap (λ (q : ℕ). pairs q cells) eb in
           let answer : doneWith held (counts .matches) (counts .widest) links ≡ doneWith (length (runOf c cells row)) (length cells) (largestRun (c .b) cells (length firsts)) (pairs (c .b) cells) =

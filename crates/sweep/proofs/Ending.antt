@@ -47,7 +47,7 @@ none-latest = record { wide = length-replicate {A = ℕ} 16385 0; empty = zeros-
 
 -- ---- the whole listing
 
-module _ (firsts nexts room₀ : List ℕ) (ring : Ring) (c : Settings) (s : SweepSafe firsts nexts room₀ ring c) (room latest list : List ℕ) (w : Swept)
+module _ {firsts nexts room₀ : List ℕ} {ring : Ring} {c : Settings} (s : SweepSafe firsts nexts room₀ ring c) {room latest list : List ℕ} {w : Swept}
     (d : SweepDone firsts nexts ring c room latest list w) where
   -- the last release is safe
   pub last-safe : length room ≡ length room₀ → ReleaseSafe room ring (w .tail) (w .head) c (w .listed)
@@ -58,9 +58,9 @@ module _ (firsts nexts room₀ : List ℕ) (ring : Ring) (c : Settings) (s : Swe
       record { fits = s .fits; room-for = omega arith; few = omega arith; order = d .order; entries = d .entries; some-base = s .some-base }
 
   -- and once every row below (rows + b + 1) - b is released, none is left
-  pub lists-all : (last : ℕ) → last ≡ length firsts + c .b + 1 → (list′ : List ℕ) (r : Released) → ReleaseDone c last room latest ring (w .tail) (w .head) list (w .listed) list′ r
+  pub lists-all : {last : ℕ} → last ≡ length firsts + c .b + 1 → {list′ : List ℕ} {r : Released} → ReleaseDone c last room latest ring (w .tail) (w .head) list (w .listed) list′ r
       → ListsAll firsts nexts ring c list′ (r .listed)
-  lists-all last el list′ r e = record { entered = go }
+  lists-all {last} el {list′} {r} e = record { entered = go }
     where
       go : (hit : Cell → Bool) (columns : ℕ) → Describes hit columns firsts nexts (c .b) ring
           → ListedTo c (matchesTo hit columns (length firsts)) (recordsFrom (c .b) [] (matchesTo hit columns (length firsts))) list′ (r .listed)
@@ -215,12 +215,12 @@ module _ (c : Settings) (hit : Cell → Bool) (columns rows : ℕ) (ring : Ring)
           ∙ sym (laid-at recordNumbers 8 record-size (drop tail all) q r nothing (omega arith) hr)
           ∙ ap (λ (t : ℕ). getD (laid recordNumbers (drop tail all)) t 0) (sym ei)
 
-pub holds-run : (firsts nexts room₀ : List ℕ) (ring : Ring) (c : Settings) → SweepSafe firsts nexts room₀ ring c → (room latest list : List ℕ) (w : Swept)
-    → SweepDone firsts nexts ring c room latest list w → length room ≡ length room₀ → (room′ : List ℕ)
+pub holds-run : {firsts nexts room₀ : List ℕ} {ring : Ring} {c : Settings} → SweepSafe firsts nexts room₀ ring c → {room latest list : List ℕ} {w : Swept}
+    → SweepDone firsts nexts ring c room latest list w → length room ≡ length room₀ → {room′ : List ℕ}
     → room′ ≡ take (8 * (w .head - w .tail)) room ++ replicate (length room - 8 * (w .head - w .tail)) 0
     → HoldsRun firsts nexts ring c room₀ room′ (w .head - w .tail)
 unfolding thenZeros
-holds-run firsts nexts room₀ ring c s room latest list w d el room′ er = record { held = go }
+holds-run {firsts} {nexts} {room₀} {ring} {c} s {room} {latest} {list} {w} d el {room′} er = record { held = go }
   where
     go : (hit : Cell → Bool) (columns : ℕ) → Describes hit columns firsts nexts (c .b) ring
         → slotOf ring (length (matchesTo hit columns (length firsts - c .b - 1))) ≡ 0

@@ -181,7 +181,7 @@ pub record SweepInv (firsts nexts room₀ latest₀ list₀ : List ℕ) (ring : 
   pub rows : k ≤ length firsts
   pub state : (hit : Cell → Bool) (columns : ℕ) → Describes hit columns firsts nexts (c .b) ring → SweepState c hit columns (length firsts) k room latest list ring tail head from listed
 
-module _ (firsts nexts room₀ latest₀ list₀ : List ℕ) (ring : Ring) (c : Settings) (s : SweepSafe firsts nexts room₀ ring c) (none : NoneLatest latest₀) where
+module _ {firsts nexts room₀ latest₀ list₀ : List ℕ} {ring : Ring} {c : Settings} (s : SweepSafe firsts nexts room₀ ring c) (none : NoneLatest latest₀) where
   pub sweep-start : SweepInv firsts nexts room₀ latest₀ list₀ ring c room₀ latest₀ list₀ 0 0 0 0 0
   sweep-start =
       record {
@@ -195,7 +195,7 @@ module _ (firsts nexts room₀ latest₀ list₀ : List ℕ) (ring : Ring) (c : 
         state = λ hit columns a. sweep-begins c hit columns (length firsts) ring (a .described .narrow) (s .walks .few-rows) (s .few-bases) room₀ latest₀ list₀ none;
       }
 
-  module _ (room latest list : List ℕ) (tail head from listed k : ℕ) (v : SweepInv firsts nexts room₀ latest₀ list₀ ring c room latest list tail head from listed k) where
+  module _ {room latest list : List ℕ} {tail head from listed k : ℕ} (v : SweepInv firsts nexts room₀ latest₀ list₀ ring c room latest list tail head from listed k) where
     pub sweep-end : length firsts ≤ k → SweepDone firsts nexts ring c room latest list (record { tail = tail; head = head; listed = listed })
     sweep-end h =
         let r = v .rows in
@@ -219,8 +219,8 @@ module _ (firsts nexts room₀ latest₀ list₀ : List ℕ) (ring : Ring) (c : 
         let l = v .long in
         record { fits = s .fits; room-for = omega arith; few = omega arith; order = v .order; entries = v .entries; some-base = s .some-base }
 
-    pub row-safe : k < length firsts → (start : ℕ) → start ≡ getD firsts k 0 → RowSafe room latest nexts ring head start (k + 1)
-    row-safe h start es =
+    pub row-safe : k < length firsts → {start : ℕ} → start ≡ getD firsts k 0 → RowSafe room latest nexts ring head start (k + 1)
+    row-safe h es =
         let rf = s .room-for in
         let kn = s .wide in
         let t = s .walks .few-rows in
@@ -241,11 +241,12 @@ module _ (firsts nexts room₀ latest₀ list₀ : List ℕ) (ring : Ring) (c : 
           rising = s .walks .nexts-safe .rising;
         }
 
-    pub sweep-next : k < length firsts → (start : ℕ) → start ≡ getD firsts k 0 → (list′ : List ℕ) (r : Released) → ReleaseDone c (k + 1) room latest ring tail head list listed list′ r
-        → (room′ latest′ : List ℕ) (n : ℕ) → length room′ ≡ length room → length latest′ ≡ length latest
-        → RowDone (c .b) (k + 1) room latest nexts ring (r .tail) head from start room′ latest′ n
-        → SweepInv firsts nexts room₀ latest₀ list₀ ring c room′ latest′ list′ (r .tail) n (laterFrom n head from) (r .listed) (k + 1)
-    sweep-next h start es list′ r d room′ latest′ n el ew e =
+    pub sweep-next : k < length firsts → {start : ℕ} → start ≡ getD firsts k 0 → {list′ : List ℕ} {r : Released} → ReleaseDone c (k + 1) room latest ring tail head list listed list′ r
+        → {room′ latest′ : List ℕ} {b n f : ℕ} → length room′ ≡ length room → length latest′ ≡ length latest
+        → b ≡ c .b → RowDone b (k + 1) room latest nexts ring (r .tail) head from start room′ latest′ n → f ≡ laterFrom n head from
+        → SweepInv firsts nexts room₀ latest₀ list₀ ring c room′ latest′ list′ (r .tail) n f (r .listed) (k + 1)
+    sweep-next h {start} es {list′} {r} d {room′} {latest′} {n = n} el ew eb e₀ ef₀ =
+        let e = subst (λ (b : ℕ). RowDone b (k + 1) room latest nexts ring (r .tail) head from start room′ latest′ n) eb e₀ in
         let vl = v .long in
         let vw = v .wide in
         let vz = v .size in
@@ -262,7 +263,7 @@ module _ (firsts nexts room₀ latest₀ list₀ : List ℕ) (ring : Ring) (c : 
           entries = d .few;
           rows = omega arith;
           state = λ hit columns a.
-              rw (add-one k)
+              rw (ef₀, add-one k)
               (sweep-turn c hit columns (length firsts) ring (a .described .narrow) (s .walks .few-rows) (s .few-bases) (a .enough) k room latest list tail head from listed (v .state hit columns a) h list′ r
               (subst (λ (t : ℕ). ReleaseDone c t room latest ring tail head list listed list′ r) (add-one k) d) start nexts
               (subst⁻¹ (λ (t : ℕ). RowWalk hit (suc k) columns t nexts) es (a .described .rows k h)) room′ latest′ n

@@ -45,23 +45,19 @@ same-length-2 c = search needs
 
 returns : tie.Need-returns
 returns c =
-    let e = c in
     let y = c .before .before .before in
     let x = y .before .before .before .before in
     let q = x .before .before in
     let n = q .before .before .before in
     let w = n .before in
-    let s = w .before .before .before .before .before in
-    let a = s .args in
-    compare-7 (a .firsts .now) (a .nexts .now) (a .c) (a .work .now) (a .list .now) (w .wide .result) (w .wide .ensures .0) (n .count-matches .result) (n .count-matches .ensures) (x .zero-all .last .0) (y .zero-all2 .last .0) (e .refuse .result) (omega (arith, q .before .record-count .ensures, q .if1 .taken)) (e .refuse .ensures) (x .zero-all .ensures) (y .zero-all2 .ensures)
+    compare-7 (w .wide .ensures .0) (n .count-matches .ensures) (omega (arith, q .before .record-count .ensures, q .if1 .taken)) (c .refuse .ensures) (x .zero-all .ensures) (y .zero-all2 .ensures)
 
 list-matches-requires : tie.Need-list-matches-requires
 unfolding workHolds
 list-matches-requires c κs =
     let q = c .before .before in
     let n = q .before .before .before in
-    let s = n .before .before .before .before .before .before in
-    let a = s .args in
+    let s = start n in
     (s .pre, (omega (arith, q .before .record-count .ensures, q .if1 .left), omega (arith, n .count-matches .ensures .few, n .count-matches .ensures .narrow, s .pre .walks .few-rows)))
 
 zero-all-requires-3 : tie.Need-zero-all-requires-3
@@ -84,7 +80,6 @@ same-length-4 c = search needs
 
 returns-2 : tie.Need-returns-2
 returns-2 c =
-    let e = c in
     let y = c .before .before .before in
     let t = y .before .before in
     let x = t .before .before .before .before .before in
@@ -92,9 +87,7 @@ returns-2 c =
     let q = m .before .before .before in
     let n = q .before .before .before in
     let w = n .before in
-    let s = w .before .before .before .before .before in
-    let a = s .args in
-    compare-8 (a .firsts .now) (a .nexts .now) (a .c) (a .work .now) (a .list .now) (w .wide .result) (w .wide .ensures .0) (n .count-matches .result) (n .count-matches .ensures) (m .list-matches .last .1 .1 .1 .1 .0) (m .list-matches .last .1 .1 .1 .1 .1 .0) (m .list-matches .result) (omega (arith, q .before .record-count .ensures, q .if1 .left)) (m .list-matches .kept .1 .1 .1 .1 .0) (m .list-matches .kept .1 .1 .1 .1 .1 .0) (m .list-matches .ensures) (x .zero-all3 .last .0) (y .zero-all4 .last .0) (e .refuse2 .result) (omega (arith, t .before .entry-count .ensures, t .if2 .taken)) (e .refuse2 .ensures) (x .zero-all3 .ensures) (y .zero-all4 .ensures)
+    compare-8 (w .wide .ensures .0) (n .count-matches .ensures) (m .list-matches .last .1 .1 .1 .1 .0) (omega (arith, q .before .record-count .ensures, q .if1 .left)) (m .list-matches .kept .1 .1 .1 .1 .0) (m .list-matches .kept .1 .1 .1 .1 .1 .0) (m .list-matches .ensures) (omega (arith, t .before .entry-count .ensures, t .if2 .taken)) (c .refuse2 .ensures) (x .zero-all3 .ensures) (y .zero-all4 .ensures)
 
 zero-after-entries-requires : tie.Need-zero-after-entries-requires
 unfolding listHolds
@@ -118,7 +111,6 @@ same-length-6 c = search needs
 
 returns-3 : tie.Need-returns-3
 returns-3 c =
-    let e = c in
     let l = c .before in
     let y = l .before .before .before in
     let t = y .before .before in
@@ -127,9 +119,7 @@ returns-3 c =
     let q = m .before .before .before in
     let n = q .before .before .before in
     let w = n .before in
-    let s = w .before .before .before .before .before in
-    let a = s .args in
-    compare-0 (a .firsts .now) (a .nexts .now) (a .c) (a .work .now) (a .list .now) (w .wide .result) (w .wide .ensures .0) (n .count-matches .result) (n .count-matches .ensures) (m .list-matches .last .1 .1 .1 .1 .0) (m .list-matches .last .1 .1 .1 .1 .1 .0) (m .list-matches .result) (omega (arith, q .before .record-count .ensures, q .if1 .left)) (m .list-matches .kept .1 .1 .1 .1 .0) (m .list-matches .kept .1 .1 .1 .1 .1 .0) (m .list-matches .ensures) (x .zero-all3 .last .0) (y .zero-after-entries .last .0) (e .done .result) (l .count-links .result) (omega (arith, t .before .entry-count .ensures, t .if2 .left)) (l .count-links .ensures) (e .done .ensures) (x .zero-all3 .ensures) (y .zero-after-entries .ensures)
+    compare-0 (w .wide .ensures .0) (n .count-matches .ensures) (m .list-matches .last .1 .1 .1 .1 .0) (omega (arith, q .before .record-count .ensures, q .if1 .left)) (m .list-matches .kept .1 .1 .1 .1 .0) (m .list-matches .kept .1 .1 .1 .1 .1 .0) (m .list-matches .ensures) (omega (arith, t .before .entry-count .ensures, t .if2 .left)) (l .count-links .ensures) (c .done .ensures) (x .zero-all3 .ensures) (y .zero-after-entries .ensures)
 
 pub compare-matches-spec : {M : Type 1} → statement M
 compare-matches-spec =

@@ -17,8 +17,7 @@ same-length c = search needs
 returns : tie.Need-returns
 returns c =
     let d = c .before .before in
-    let a = d .before .before .before .before .before .before .args in
-    holds-none (a .firsts .now) (a .nexts .now) (a .work .now) (d .zero-all .last .0) (a .c) (a .widest) (a .row) (d .before .before .if1 .taken) (d .zero-all .ensures)
+    holds-none (d .before .before .if1 .taken) (d .zero-all .ensures)
 
 wide-requires : tie.Need-wide-requires
 wide-requires c κs = search needs
@@ -39,8 +38,7 @@ hold-run-requires : tie.Need-hold-run-requires
 hold-run-requires c κs =
     let r = c .before .before in
     let s = r .before .before .before .before .before .before .before .before in
-    let a = s .args in
-    hold-safe (a .firsts .now) (a .nexts .now) (a .work .now) (a .c) (a .widest) (r .before .matches-before .result) (a .row) (r .ring-from .result) (s .pre .0) (s .pre .1 .0) (s .pre .1 .1 .1) (r .ring-from .ensures)
+    hold-safe (s .args .row) (s .pre .0) (s .pre .1 .0) (s .pre .1 .1 .1) (r .ring-from .ensures)
 
 same-length-2 : tie.Need-same-length-2
 same-length-2 c = search needs
@@ -52,9 +50,8 @@ returns-2 c =
     let m = r .before in
     let p = m .before in
     let s = p .before .before .before .before .before .before in
-    let a = s .args in
-    holds-swept (a .firsts .now) (a .nexts .now) (a .work .now) (h .hold-run .last .1 .1 .0) (a .c) (a .widest) (a .row) (p .before-run .result) (m .matches-before .result) (h .hold-run .result) (r .ring-from .result) (s .pre .1 .1 .1)
-    (p .before-run .ensures ∙ ap (λ (b : ℕ). a .row - b - 1) (p .before .wide .ensures .0)) (m .matches-before .ensures) (r .ring-from .ensures) (h .hold-run .ensures)
+    holds-swept (s .pre .1 .1 .1)
+    (p .before-run .ensures ∙ ap (λ (b : ℕ). s .args .row - b - 1) (p .before .wide .ensures .0)) (m .matches-before .ensures) (r .ring-from .ensures) (h .hold-run .ensures)
 
 pub hold-spec : {M : Type 1} → statement M
 hold-spec =

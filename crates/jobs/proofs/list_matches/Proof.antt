@@ -5,7 +5,7 @@ use Rattle.jobs.proofs.list_matches.Statement.{statement}
 use Rattle.jobs.proofs.list_matches.Tie as tie
 
 returns : tie.Need-returns
-returns c = let a = c .before .before .before .before .before .args in lists-none (a .firsts .now) (a .nexts .now) (a .list .now) (a .c) (a .widest) (c .if1 .taken)
+returns c = lists-none (c .if1 .taken)
 
 list-all-requires : tie.Need-list-all-requires
 list-all-requires c κs =
@@ -23,8 +23,7 @@ same-length-2 c = search needs
 returns-2 : tie.Need-returns-2
 returns-2 c =
     let d = c .before .before .before .before in
-    let a = d .before .before .before .before .before .before .before .before .args in
-    lists-swept (a .firsts .now) (a .nexts .now) (d .list-all .last .1 .1 .1 .1 .1 .0) (a .c) (a .widest) (d .list-all .result) (d .list-all .ensures)
+    lists-swept (d .list-all .ensures)
 
 pub list-matches-spec : {M : Type 1} → statement M
 list-matches-spec =

@@ -34,14 +34,11 @@ same-length c = search needs
 
 returns : tie.Need-returns
 returns c =
-    let e = c in
     let x = c .before .before .before in
     let q = x .before .before in
     let n = q .before .before .before in
     let w = n .before in
-    let s = w .before .before .before .before in
-    let a = s .args in
-    stopped-7 (a .firsts .now) (a .nexts .now) (a .c) (a .work .now) (a .row) (w .wide .result) (w .wide .ensures .0) (n .count-matches .result) (n .count-matches .ensures) (x .zero-all .last .0) (e .refuse .result) (omega (arith, q .before .record-count .ensures, q .if1 .taken)) (e .refuse .ensures) (x .zero-all .ensures)
+    stopped-7 (w .wide .ensures .0) (n .count-matches .ensures) (omega (arith, q .before .record-count .ensures, q .if1 .taken)) (c .refuse .ensures) (x .zero-all .ensures)
 
 zero-all-requires-2 : tie.Need-zero-all-requires-2
 zero-all-requires-2 c κs = search needs
@@ -54,15 +51,12 @@ same-length-2 c = search needs
 
 returns-2 : tie.Need-returns-2
 returns-2 c =
-    let e = c in
     let x = c .before .before .before in
     let t = x .before .before in
     let q = t .before in
     let n = q .before .before .before in
     let w = n .before in
-    let s = w .before .before .before .before in
-    let a = s .args in
-    stopped-19 (a .firsts .now) (a .nexts .now) (a .c) (a .work .now) (a .row) (w .wide .result) (w .wide .ensures .0) (n .count-matches .result) (n .count-matches .ensures) (x .zero-all2 .last .0) (e .refuse2 .result) (omega (arith, q .before .record-count .ensures, q .if1 .left)) (t .if2 .taken) (e .refuse2 .ensures) (x .zero-all2 .ensures)
+    stopped-19 (w .wide .ensures .0) (n .count-matches .ensures) (omega (arith, q .before .record-count .ensures, q .if1 .left)) (t .if2 .taken) (c .refuse2 .ensures) (x .zero-all2 .ensures)
 
 hold-requires : tie.Need-hold-requires
 unfolding workHolds
@@ -70,8 +64,7 @@ hold-requires c κs =
     let t = c .before in
     let q = t .before in
     let n = q .before .before .before in
-    let s = n .before .before .before .before .before in
-    let a = s .args in
+    let s = start n in
     (s .pre, (omega (arith, q .before .record-count .ensures, q .if1 .left), (omega (arith, n .count-matches .ensures .few, n .count-matches .ensures .narrow, s .pre .walks .few-rows), t .if2 .left)))
 
 count-links-requires : tie.Need-count-links-requires
@@ -85,16 +78,13 @@ same-length-3 c = search needs
 
 returns-3 : tie.Need-returns-3
 returns-3 c =
-    let e = c in
     let l = c .before in
     let m = l .before .before .before in
     let t = m .before .before in
     let q = t .before in
     let n = q .before .before .before in
     let w = n .before in
-    let s = w .before .before .before .before in
-    let a = s .args in
-    stopped-0 (a .firsts .now) (a .nexts .now) (a .c) (a .work .now) (a .row) (w .wide .result) (w .wide .ensures .0) (n .count-matches .result) (n .count-matches .ensures) (m .hold .last .1 .1 .1 .1 .0) (e .done .result) (m .hold .result) (l .count-links .result) (omega (arith, q .before .record-count .ensures, q .if1 .left)) (t .if2 .left) (m .hold .ensures) (l .count-links .ensures) (e .done .ensures)
+    stopped-0 (w .wide .ensures .0) (n .count-matches .ensures) (omega (arith, q .before .record-count .ensures, q .if1 .left)) (t .if2 .left) (m .hold .ensures) (l .count-links .ensures) (c .done .ensures)
 
 pub stop-matches-spec : {M : Type 1} → statement M
 stop-matches-spec =

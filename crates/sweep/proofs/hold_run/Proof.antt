@@ -5,6 +5,10 @@ use borrow.Author.Needs.{needs}
 use Rattle.sweep.proofs.hold_run.Statement.{statement}
 use Rattle.sweep.proofs.hold_run.Tie as tie
 
+-- the start, from where the rows are swept
+abbrev start : tie.After-sweep → tie.Start
+start d = d .before .before .before .before .before .before .before
+
 slice-aggregate-sweep : tie.Need-slice-aggregate-sweep
 slice-aggregate-sweep c = search needs
 
@@ -18,7 +22,9 @@ sub-held : tie.Need-sub-held
 sub-held c = search needs
 
 zero-after-requires : tie.Need-zero-after-requires
-zero-after-requires c κs = let d = c .before .before .before .before .before .before in omega (arith, d .sweep .ensures .few, d .before .before .before .before .before .before .before .pre .walks .few-rows)
+zero-after-requires c κs =
+    let d = c .before .before .before .before .before .before in
+    omega (arith, d .sweep .ensures .few, start d .pre .walks .few-rows)
 
 same-length : tie.Need-same-length
 same-length c = search needs
@@ -27,10 +33,7 @@ returns : tie.Need-returns
 returns c =
     let e = c .before .before in
     let d = e .before .before .before .before .before .before .before in
-    let s = d .before .before .before .before .before .before .before in
-    let a = s .args in
-    holds-run (a .firsts .now) (a .nexts .now) (a .room .now) (a .ring) (a .c) (s .pre) (d .sweep .last .1 .1 .0) (d .sweep .last .1 .1 .1 .0) (d .sweep .last .1 .1 .1 .1 .1 .1 .0) (d .sweep .result) (d .sweep .ensures)
-    (d .sweep .kept .1 .1 .0) (e .zero-after .last .0) (e .zero-after .ensures)
+    holds-run (start d .pre) (d .sweep .ensures) (d .sweep .kept .1 .1 .0) (e .zero-after .ensures)
 
 pub hold-run-spec : {M : Type 1} → statement M
 hold-run-spec =

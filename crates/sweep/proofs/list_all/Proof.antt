@@ -36,9 +36,7 @@ slice-aggregate-release c = search needs
 release-requires : tie.Need-release-requires
 release-requires c κs =
     let d = swept (c .before .before .before) in
-    let s = start d in
-    let a = s .args in
-    last-safe (a .firsts .now) (a .nexts .now) (a .room .now) (a .ring) (a .c) (s .pre) (d .sweep .last .1 .1 .0) (d .sweep .last .1 .1 .1 .0) (d .sweep .last .1 .1 .1 .1 .1 .1 .0) (d .sweep .result) (d .sweep .ensures) (d .sweep .kept .1 .1 .0)
+    last-safe (start d .pre) (d .sweep .ensures) (d .sweep .kept .1 .1 .0)
 
 same-length : tie.Need-same-length
 same-length c = search needs
@@ -52,9 +50,8 @@ returns c =
     let w = e .before .before .before .before in
     let d = swept w in
     let s = start d in
-    let a = s .args in
-    lists-all (a .firsts .now) (a .nexts .now) (a .room .now) (a .ring) (a .c) (s .pre) (d .sweep .last .1 .1 .0) (d .sweep .last .1 .1 .1 .0) (d .sweep .last .1 .1 .1 .1 .1 .1 .0) (d .sweep .result) (d .sweep .ensures)
-    (length (a .firsts .now) + w .wide .result + 1) (ap (λ (b : ℕ). length (a .firsts .now) + b + 1) (w .wide .ensures .0)) (e .release .last .1 .1 .1 .1 .1 .1 .1 .0) (e .release .result) (e .release .ensures)
+    lists-all (s .pre) (d .sweep .ensures)
+    (ap (λ (b : ℕ). length (s .args .firsts .now) + b + 1) (w .wide .ensures .0)) (e .release .ensures)
 
 pub list-all-spec : {M : Type 1} → statement M
 list-all-spec =

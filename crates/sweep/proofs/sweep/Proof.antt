@@ -27,7 +27,7 @@ wide-requires : tie.Need-wide-requires Inv-loop μ-loop
 wide-requires c κs = search needs
 
 loop-holds : tie.Need-loop-holds Inv-loop μ-loop
-loop-holds c = let s = c .before .before .before .before .before .before in let a = s .args in sweep-start (a .firsts .now) (a .nexts .now) (a .room .now) (a .latest .now) (a .list .now) (a .ring) (a .c) (s .pre .0) (s .pre .1)
+loop-holds c = let s = c .before .before .before .before .before .before in sweep-start (s .pre .0) (s .pre .1)
 
 mul-wide : tie.Need-mul-wide Inv-loop μ-loop
 mul-wide c = omega arith
@@ -48,9 +48,7 @@ release-requires c κs =
     let n = c .before .before .before .before .before in
     let l = n .before in
     let s = start (l .before) in
-    let a = s .args in
-    let v = l .loop in
-    release-safe (a .firsts .now) (a .nexts .now) (a .room .now) (a .latest .now) (a .list .now) (a .ring) (a .c) (s .pre .0) (s .pre .1) (v .room) (v .latest) (v .list) (v .tail) (v .head) (v .from) (v .listed) (v .k) (v .inv) (n .loop-test .taken)
+    release-safe (s .pre .0) (s .pre .1) (l .loop .inv) (n .loop-test .taken)
 
 store-row-requires : tie.Need-store-row-requires Inv-loop μ-loop
 store-row-requires c κs =
@@ -58,9 +56,7 @@ store-row-requires c κs =
     let n = w .before .before in
     let l = n .before in
     let s = start (l .before) in
-    let a = s .args in
-    let v = l .loop in
-    row-safe (a .firsts .now) (a .nexts .now) (a .room .now) (a .latest .now) (a .list .now) (a .ring) (a .c) (s .pre .0) (s .pre .1) (v .room) (v .latest) (v .list) (v .tail) (v .head) (v .from) (v .listed) (v .k) (v .inv) (n .loop-test .taken) (w .wide2 .result) (w .wide2 .ensures .0)
+    row-safe (s .pre .0) (s .pre .1) (l .loop .inv) (n .loop-test .taken) (w .wide2 .ensures .0)
 
 later-from-requires : tie.Need-later-from-requires Inv-loop μ-loop
 later-from-requires c κs = search needs
@@ -80,12 +76,7 @@ loop-again c =
     let l = n .before in
     let w = l .before in
     let s = start w in
-    let a = s .args in
-    let v = l .loop in
-    subst⁻¹ (λ (f : ℕ). SweepInv (a .firsts .now) (a .nexts .now) (a .room .now) (a .latest .now) (a .list .now) (a .ring) (a .c) (e .store-row .last .1 .1 .0) (e .store-row .last .1 .1 .1 .0) (d .release .last .1 .1 .1 .1 .1 .1 .1 .0) (d .release .result .tail) (e .store-row .result) f (d .release .result .listed) (v .k + 1))
-    (c .later-from .ensures)
-    (sweep-next (a .firsts .now) (a .nexts .now) (a .room .now) (a .latest .now) (a .list .now) (a .ring) (a .c) (s .pre .0) (s .pre .1) (v .room) (v .latest) (v .list) (v .tail) (v .head) (v .from) (v .listed) (v .k) (v .inv) (n .loop-test .taken) (r .wide2 .result) (r .wide2 .ensures .0) (d .release .last .1 .1 .1 .1 .1 .1 .1 .0) (d .release .result) (d .release .ensures) (e .store-row .last .1 .1 .0) (e .store-row .last .1 .1 .1 .0) (e .store-row .result) (e .store-row .kept .1 .1 .0) (e .store-row .kept .1 .1 .1 .0)
-    (subst (λ (b : ℕ). RowDone b (v .k + 1) (v .room) (v .latest) (a .nexts .now) (a .ring) (d .release .result .tail) (v .head) (v .from) (r .wide2 .result) (e .store-row .last .1 .1 .0) (e .store-row .last .1 .1 .1 .0) (e .store-row .result)) (w .wide .ensures .0) (e .store-row .ensures)))
+    sweep-next (s .pre .0) (s .pre .1) (l .loop .inv) (n .loop-test .taken) (r .wide2 .ensures .0) (d .release .ensures) (e .store-row .kept .1 .1 .0) (e .store-row .kept .1 .1 .1 .0) (w .wide .ensures .0) (e .store-row .ensures) (c .later-from .ensures)
 
 same-length : tie.Need-same-length Inv-loop μ-loop
 same-length c = c .before .loop .inv .long
@@ -100,9 +91,7 @@ returns : tie.Need-returns Inv-loop μ-loop
 returns c =
     let l = c .before in
     let s = start (l .before) in
-    let a = s .args in
-    let v = l .loop in
-    sweep-end (a .firsts .now) (a .nexts .now) (a .room .now) (a .latest .now) (a .list .now) (a .ring) (a .c) (s .pre .0) (s .pre .1) (v .room) (v .latest) (v .list) (v .tail) (v .head) (v .from) (v .listed) (v .k) (v .inv) (c .loop-test .left)
+    sweep-end (s .pre .0) (s .pre .1) (l .loop .inv) (c .loop-test .left)
 
 pub sweep-spec : {M : Type 1} → statement M
 sweep-spec =
