@@ -119,12 +119,12 @@ pub record Releasing (c : Settings) (i : ℕ) (room latest : List ℕ) (ring : R
   pub entered : (k : ℕ) (all : List Record) (cells : List Cell) → ReleaseAsks c i k all cells room latest ring tail head
       → ListedTo c cells (take tail all) list₀ listed₀ → ListedTo c cells (take t all) list n
 
-module _ (c : Settings) (i : ℕ) (room latest : List ℕ) (ring : Ring) (tail head : ℕ) (list₀ : List ℕ) (listed₀ : ℕ) (s : ReleaseSafe room ring tail head c listed₀) where
+module _ {c : Settings} {i : ℕ} {room latest : List ℕ} {ring : Ring} {tail head : ℕ} {list₀ : List ℕ} {listed₀ : ℕ} (s : ReleaseSafe room ring tail head c listed₀) where
   pub releasing-start : Releasing c i room latest ring tail head list₀ listed₀ tail list₀ listed₀
   releasing-start =
       record { from = le-refl _; to = s .order; few = s .entries; size = refl; old = λ all r e g h l. absurd (omega arith); entered = λ k all cells a v. v }
 
-  module _ (t : ℕ) (list : List ℕ) (n : ℕ) (v : Releasing c i room latest ring tail head list₀ listed₀ t list n) where
+  module _ {t : ℕ} {list : List ℕ} {n : ℕ} (v : Releasing c i room latest ring tail head list₀ listed₀ t list n) where
     -- what is read of record t is record t
     read-is : (all : List Record) → InRoom all room ring tail → length all ≡ head → t < head → (x : Record) (slot : ℕ) → slot ≡ slotOf ring (t + 1 - 1) → x ≡ recordIn room slot → x ≡ nth all t
     read-is all r e h x slot es ex =
@@ -160,9 +160,9 @@ module _ (c : Settings) (i : ℕ) (room latest : List ℕ) (ring : Ring) (tail h
             older g q l (above z) = v .old all (a .machine .stored) (a .counted) g (omega arith) q
 
     -- record t is still of the run
-    pub released-here : t < head → (x : Record) (slot : ℕ) → slot ≡ slotOf ring (t + 1 - 1) → x ≡ recordIn room slot → i ≤ x .cell .row + c .b
+    pub released-here : t < head → {x : Record} {slot : ℕ} → slot ≡ slotOf ring (t + 1 - 1) → x ≡ recordIn room slot → i ≤ x .cell .row + c .b
         → ReleaseDone c i room latest ring tail head list₀ listed₀ list (record { tail = t; listed = n })
-    released-here h x slot es ex l =
+    released-here h {x} {slot} es ex l =
         done (omega arith) (λ k all cells a g q w.
         let e = ap (λ (r : Record). r .cell .row) (read-is all (a .machine .stored) (a .counted) h x slot es ex) in
         let o = a .sorted t g q w in
@@ -173,11 +173,11 @@ module _ (c : Settings) (i : ℕ) (room latest : List ℕ) (ring : Ring) (tail h
     released-all h = done (v .to) (λ k all cells a g q w. (let e = a .counted in absurd (omega arith)))
 
     -- record t is old, and is listed or not
-    pub releasing-next : t < head → (x : Record) (slot : ℕ) → slot ≡ slotOf ring (t + 1 - 1) → x ≡ recordIn room slot → x .cell .row + c .b < i
-        → (list′ : List ℕ) (n′ : ℕ) → n′ ≡ listedCount (passes room latest ring t x c) n → list′ ≡ listedRoom (passes room latest ring t x c) (c .k) x list n
+    pub releasing-next : t < head → {x : Record} {slot : ℕ} → slot ≡ slotOf ring (t + 1 - 1) → x ≡ recordIn room slot → x .cell .row + c .b < i
+        → {list′ : List ℕ} {n′ : ℕ} → n′ ≡ listedCount (passes room latest ring t x c) n → list′ ≡ listedRoom (passes room latest ring t x c) (c .k) x list n
         → Releasing c i room latest ring tail head list₀ listed₀ (t + 1) list′ n′
     unfolding listedCount
-    releasing-next h x slot es ex l list′ n′ en el =
+    releasing-next h {x} {slot} es ex l {list′} {n′} en el =
         let f = v .from in
         record {
           from = omega arith;

@@ -178,13 +178,13 @@ pub record RowInv (b i : ℕ) (room₀ latest₀ nexts : List ℕ) (ring : Ring)
   pub state : (hit : Cell → Bool) (columns k : ℕ) → i ≡ suc k → RowWalk hit (suc k) columns start nexts → RowFits b hit columns k ring tail
       → RowState b hit columns k room₀ latest₀ ring tail head₀ 0 0 from start → RowState b hit columns k room latest ring tail head near column from j
 
-module _ (b i : ℕ) (room₀ latest₀ nexts : List ℕ) (ring : Ring) (tail head₀ from start : ℕ) (s : RowSafe room₀ latest₀ nexts ring head₀ start i) where
+module _ {b i : ℕ} {room₀ latest₀ nexts : List ℕ} {ring : Ring} {tail head₀ from start : ℕ} (s : RowSafe room₀ latest₀ nexts ring head₀ start i) where
   pub row-start : RowInv b i room₀ latest₀ nexts ring tail head₀ from start room₀ latest₀ head₀ 0 0 start
   row-start =
       let g = s .begin in
       record { long = refl; wide = refl; more = omega arith; few = omega arith; in-column = omega arith; in-j = omega arith; ahead = λ h. h; state = λ hit columns k e l f v. v }
 
-  module _ (room latest : List ℕ) (head near column j : ℕ) (v : RowInv b i room₀ latest₀ nexts ring tail head₀ from start room latest head near column j) where
+  module _ {room latest : List ℕ} {head near column j : ℕ} (v : RowInv b i room₀ latest₀ nexts ring tail head₀ from start room latest head near column j) where
     pub row-add : (j ≡ 0 → ⊥) → AddSafe room latest ring head i j
     row-add nz =
         let r = s .room-for in
@@ -197,9 +197,9 @@ module _ (b i : ℕ) (room₀ latest₀ nexts : List ℕ) (ring : Ring) (tail he
         let vj = v .in-j in
         record { fits = s .fits; room-for = omega arith; inside = omega arith; narrow = omega arith; tall = s .tall; few = omega arith }
 
-    pub row-next : (room′ latest′ : List ℕ) → (j ≡ 0 → ⊥) → length room′ ≡ length room → length latest′ ≡ length latest
+    pub row-next : {room′ latest′ : List ℕ} → (j ≡ 0 → ⊥) → length room′ ≡ length room → length latest′ ≡ length latest
         → Added b i j room latest ring tail head near column from room′ latest′ → RowInv b i room₀ latest₀ nexts ring tail head₀ from start room′ latest′ (head + 1) (head + 1) j (getD nexts (j - 1) 0)
-    row-next room′ latest′ nz el ew d =
+    row-next {room′} {latest′} nz el ew d =
         let vl = v .long in
         let vw = v .wide in
         let vm = v .more in

@@ -16,7 +16,7 @@ wide-requires : tie.Need-wide-requires Inv-loop μ-loop
 wide-requires c κs = search needs
 
 loop-holds : tie.Need-loop-holds Inv-loop μ-loop
-loop-holds c = let s = c .before .before .before .before in let a = s .args in releasing-start (a .c) (a .i) (a .room .now) (a .latest .now) (a .ring) (a .tail) (a .head) (a .list .now) (a .listed) (s .pre)
+loop-holds c = let s = c .before .before .before .before in releasing-start (s .pre)
 
 add-slot : tie.Need-add-slot Inv-loop μ-loop
 add-slot c = omega (arith, c .before .loop .inv .to)
@@ -38,9 +38,6 @@ same-length c =
     let r = c .before .before in
     let q = r .before in
     let l = q .before .before in
-    let w = l .before in
-    let s = w .before .before .before .before in
-    let a = s .args in
     let v = l .loop in
     v .inv .size
 
@@ -51,9 +48,8 @@ returns c =
     let l = q .before .before in
     let w = l .before in
     let s = w .before .before .before .before in
-    let a = s .args in
     let v = l .loop in
-    released-here (a .c) (a .i) (a .room .now) (a .latest .now) (a .ring) (a .tail) (a .head) (a .list .now) (a .listed) (s .pre) (v .t) (v .list) (v .n) (v .inv) (q .before .loop-test .taken) (r .record-at .result) (q .slot .result) (q .slot .ensures .0) (r .record-at .ensures)
+    released-here (s .pre) (v .inv) (q .before .loop-test .taken) (q .slot .ensures .0) (r .record-at .ensures)
     (omega (arith, c .if1 .taken, c .before .wide2 .ensures .0, w .wide .ensures .0))
 
 list-record-requires : tie.Need-list-record-requires Inv-loop μ-loop
@@ -63,7 +59,6 @@ list-record-requires c κs =
     let l = q .before .before in
     let w = l .before in
     let s = w .before .before .before .before in
-    let a = s .args in
     let v = l .loop in
     (s .pre .fits, (s .pre .room-for, (omega (arith, s .pre .few, q .before .loop-test .taken), (omega (arith, s .pre .few, v .inv .few, q .before .loop-test .taken), s .pre .some-base))))
 
@@ -74,19 +69,12 @@ add-t c =
     let l = q .before .before in
     let w = l .before in
     let s = w .before .before .before .before in
-    let a = s .args in
-    let v = l .loop in
     omega (arith, s .pre .few, q .before .loop-test .taken)
 
 loop-less : tie.Need-loop-less Inv-loop μ-loop
 loop-less c =
     let r = c .before .before .before .before .before .before in
     let q = r .before in
-    let l = q .before .before in
-    let w = l .before in
-    let s = w .before .before .before .before in
-    let a = s .args in
-    let v = l .loop in
     let z = q .before .loop-test .taken in omega arith
 
 loop-again : tie.Need-loop-again Inv-loop μ-loop
@@ -96,11 +84,10 @@ loop-again c =
     let l = q .before .before in
     let w = l .before in
     let s = w .before .before .before .before in
-    let a = s .args in
     let v = l .loop in
     let d = c .before .before in
-    releasing-next (a .c) (a .i) (a .room .now) (a .latest .now) (a .ring) (a .tail) (a .head) (a .list .now) (a .listed) (s .pre) (v .t) (v .list) (v .n) (v .inv) (q .before .loop-test .taken) (r .record-at .result) (q .slot .result) (q .slot .ensures .0) (r .record-at .ensures)
-    (omega (arith, d .before .before .if1 .left, d .before .before .before .wide2 .ensures .0, w .wide .ensures .0)) (d .list-record .last .1 .1 .1 .1 .1 .1 .0) (d .list-record .result) (d .list-record .ensures .0) (d .list-record .ensures .1)
+    releasing-next (s .pre) (v .inv) (q .before .loop-test .taken) (q .slot .ensures .0) (r .record-at .ensures)
+    (omega (arith, d .before .before .if1 .left, d .before .before .before .wide2 .ensures .0, w .wide .ensures .0)) (d .list-record .ensures .0) (d .list-record .ensures .1)
 
 same-length-2 : tie.Need-same-length-2 Inv-loop μ-loop
 same-length-2 c = c .before .loop .inv .size
@@ -109,9 +96,8 @@ returns-2 : tie.Need-returns-2 Inv-loop μ-loop
 returns-2 c =
     let l = c .before in
     let s = l .before .before .before .before .before in
-    let a = s .args in
     let v = l .loop in
-    released-all (a .c) (a .i) (a .room .now) (a .latest .now) (a .ring) (a .tail) (a .head) (a .list .now) (a .listed) (s .pre) (v .t) (v .list) (v .n) (v .inv) (c .loop-test .left)
+    released-all (s .pre) (v .inv) (c .loop-test .left)
 
 pub release-spec : {M : Type 1} → statement M
 release-spec =

@@ -14,33 +14,27 @@ abbrev μ-loop : tie.MeasureT-loop
 μ-loop nexts start room₀ latest₀ ring tail head from b i h₀ near₀ column₀ j₀ room latest h near column j = toCome (length latest₀) j
 
 loop-holds : tie.Need-loop-holds Inv-loop μ-loop
-loop-holds c = let s = c .before .before .before in let a = s .args in row-start (a .b) (a .i) (a .room .now) (a .latest .now) (a .nexts .now) (a .ring) (a .tail) (a .head) (a .from) (a .start) (s .pre)
+loop-holds c = let s = c .before .before .before in row-start (s .pre)
 
 add-requires : tie.Need-add-requires Inv-loop μ-loop
 add-requires c κs =
     let n = c .before .before in
     let l = n .before in
     let s = l .before .before .before .before in
-    let a = s .args in
     let v = l .loop in
-    row-add (a .b) (a .i) (a .room .now) (a .latest .now) (a .nexts .now) (a .ring) (a .tail) (a .head) (a .from) (a .start) (s .pre) _ _ (v .h) (v .near) (v .column) (v .j) (v .inv) (n .loop-test .taken)
+    row-add (s .pre) (v .inv) (n .loop-test .taken)
 
 add-h : tie.Need-add-h Inv-loop μ-loop
 add-h c =
     let n = c .before .before .before .before .before .before .before in
     let l = n .before in
     let s = l .before .before .before .before in
-    let a = s .args in
     let v = l .loop in
     omega (arith, v .inv .few, s .pre .few, v .inv .in-column, s .pre .narrow)
 
 sub-p : tie.Need-sub-p Inv-loop μ-loop
 sub-p c =
     let n = c .before .before .before .before .before .before .before in
-    let l = n .before in
-    let s = l .before .before .before .before in
-    let a = s .args in
-    let v = l .loop in
     let z = n .loop-test .taken in omega arith
 
 mul-wide : tie.Need-mul-wide Inv-loop μ-loop
@@ -48,7 +42,6 @@ mul-wide c =
     let n = c .before .before .before .before .before .before .before in
     let l = n .before in
     let s = l .before .before .before .before in
-    let a = s .args in
     let v = l .loop in
     omega (arith, v .inv .in-j, s .pre .known, n .loop-test .taken)
 
@@ -57,7 +50,6 @@ shared-slice-read-wide c =
     let n = c .before .before .before .before .before .before .before .before in
     let l = n .before in
     let s = l .before .before .before .before in
-    let a = s .args in
     let v = l .loop in
     let z = n .loop-test .taken in omega (arith, v .inv .in-j, s .pre .known)
 
@@ -78,11 +70,10 @@ loop-again c =
     let n = c .before .before .before .before .before .before .before .before .before in
     let l = n .before in
     let s = l .before .before .before .before in
-    let a = s .args in
     let v = l .loop in
     let d = c .before .before .before .before .before .before in
     rw (c .wide .ensures .0)
-    (row-next (a .b) (a .i) (a .room .now) (a .latest .now) (a .nexts .now) (a .ring) (a .tail) (a .head) (a .from) (a .start) (s .pre) _ _ (v .h) (v .near) (v .column) (v .j) (v .inv) (d .add .last .0) (d .add .last .1 .0) (n .loop-test .taken) (d .add .kept .0) (d .add .kept .1 .0) (d .add .ensures))
+    (row-next (s .pre) (v .inv) (n .loop-test .taken) (d .add .kept .0) (d .add .kept .1 .0) (d .add .ensures))
 
 same-length : tie.Need-same-length Inv-loop μ-loop
 same-length c = c .before .loop .inv .long
@@ -94,9 +85,8 @@ returns : tie.Need-returns Inv-loop μ-loop
 returns c =
     let l = c .before in
     let s = l .before .before .before .before in
-    let a = s .args in
     let v = l .loop in
-    row-end (a .b) (a .i) (a .room .now) (a .latest .now) (a .nexts .now) (a .ring) (a .tail) (a .head) (a .from) (a .start) (s .pre) _ _ (v .h) (v .near) (v .column) (v .j) (v .inv) (omega arith)
+    row-end (s .pre) (v .inv) (omega arith)
 
 pub store-row-spec : {M : Type 1} → statement M
 store-row-spec =
