@@ -79,16 +79,16 @@ pub record Writing (list old out : List ℕ) (count at n : ℕ) : Type 0 where
   pub lines : out ≡ laid entryLine (entriesIn list n) ++ drop (27 * n) old
   pub long : length out ≡ length old
 
-module _ (list old : List ℕ) (count : ℕ) where
+module _ {list old : List ℕ} {count : ℕ} where
   pub writing-start : Writing list old old count 0 0
   unfolding entriesIn laid
   writing-start = record { most = omega arith; place = refl; lines = refl; long = refl }
 
-  module _ (safe : EntriesSafe list old count) (out : List ℕ) (at n : ℕ) (v : Writing list old out count at n) where
+  module _ (safe : EntriesSafe list old count) {out : List ℕ} {at n : ℕ} (v : Writing list old out count at n) where
     pub writing-inside : at ≤ length out
     writing-inside = let r = safe .room in let m = v .most in let p = v .place in let l = v .long in omega arith
 
-    module _ (h : n < count) (x : Entry) (ex : x ≡ entryIn list n) (w : Written) (left : List ℕ)
+    module _ (h : n < count) {x : Entry} (ex : x ≡ entryIn list n) {w : Written} {left : List ℕ}
         (ew : w ≡ written (entryFits x) (entryLine x) (midOf at (length out - at) out)) (el : left ≡ leaves (entryFits x) (entryLine x) (midOf at (length out - at) out)) where
       abbrev text : List ℕ
       text = laid entryLine (entriesIn list n)

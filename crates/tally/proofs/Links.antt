@@ -106,7 +106,7 @@ pub record AddLoop (nexts : List ℕ) (start b : ℕ) (old : List ℕ) (links : 
       → ColumnCounts (matchesTo hit columns (i - b)) (matchesTo hit columns i) old → links ≡ pairs b (matchesTo hit columns i)
       → AddAt hit i columns b counts total j
 
-module _ (nexts : List ℕ) (start b : ℕ) (old : List ℕ) (links : ℕ) where
+module _ {nexts : List ℕ} {start b : ℕ} {old : List ℕ} {links : ℕ} where
   pub add-start : start ≤ length nexts → AddLoop nexts start b old links old links start
   add-start h =
       record {
@@ -121,10 +121,10 @@ module _ (nexts : List ℕ) (start b : ℕ) (old : List ℕ) (links : ℕ) where
             };
       }
 
-  module _ (counts : List ℕ) (total j : ℕ) (v : AddLoop nexts start b old links counts total j) where
-    pub add-next : NextsSafe nexts → 1 ≤ j → (n total′ : ℕ) → n ≡ sumFrom counts (j - b) (j + 1 - (j - b)) → total′ ≡ (total + n) % 2 ^ 64
+  module _ {counts : List ℕ} {total j : ℕ} (v : AddLoop nexts start b old links counts total j) where
+    pub add-next : NextsSafe nexts → 1 ≤ j → {n total′ : ℕ} → n ≡ sumFrom counts (j - b) (j + 1 - (j - b)) → total′ ≡ (total + n) % 2 ^ 64
         → AddLoop nexts start b old links (set counts j ((getD counts j 0 + 1) % 2 ^ 32)) total′ (getD nexts (j - 1) 0)
-    add-next safe h n total′ en et =
+    add-next safe h {n} {total′} en et =
         record {
           inside = safe .inside (j - 1);
           walked = λ hit i columns w r k u e. turn hit i columns w r k (v .walked hit i columns w r k u e);
@@ -167,7 +167,7 @@ pub record LinkLoop (firsts nexts : List ℕ) (b : ℕ) (counts : List ℕ) (lin
   pub inside : p ≤ length firsts
   pub walked : (hit : Cell → Bool) (columns : ℕ) → Described hit columns firsts nexts → LinkAt hit columns b p counts links
 
-module _ (firsts nexts : List ℕ) (b : ℕ) where
+module _ {firsts nexts : List ℕ} {b : ℕ} where
   pub link-start : (n : ℕ) → n ≡ 16385 → LinkLoop firsts nexts b (replicate n 0) 0 0
   unfolding matchesTo pairs sumOf
   link-start n q =
@@ -177,10 +177,10 @@ module _ (firsts nexts : List ℕ) (b : ℕ) where
         walked = λ hit columns d. record { counted = rw e (counts-none n q); linked = refl };
       }
 
-  module _ (counts : List ℕ) (links p : ℕ) (v : LinkLoop firsts nexts b counts links p) where
-    pub link-next : length firsts ≤ 16384 → p < length firsts → (freed counts′ : List ℕ) (links′ : ℕ) → Released firsts nexts b p counts freed
+  module _ {counts : List ℕ} {links p : ℕ} (v : LinkLoop firsts nexts b counts links p) where
+    pub link-next : length firsts ≤ 16384 → p < length firsts → {freed counts′ : List ℕ} {links′ : ℕ} → Released firsts nexts b p counts freed
         → RowAdded nexts (getD firsts p 0) b freed counts′ links links′ → LinkLoop firsts nexts b counts′ links′ (p + 1)
-    link-next few h freed counts′ links′ r a =
+    link-next few h {freed} {counts′} {links′} r a =
         record { inside = omega arith; walked = λ hit columns d. rw add-one (turn hit columns d (v .walked hit columns d)) }
       where
         turn : (hit : Cell → Bool) (columns : ℕ) → Described hit columns firsts nexts → LinkAt hit columns b p counts links → LinkAt hit columns b (suc p) counts′ links′

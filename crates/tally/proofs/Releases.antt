@@ -29,7 +29,7 @@ pub record ReleaseLoop (nexts : List ℕ) (start : ℕ) (old counts : List ℕ) 
   pub walked : (hit : Cell → Bool) (m i columns : ℕ) → RowWalk hit (suc m) columns start nexts → m < i
       → ColumnCounts (matchesTo hit columns m) (matchesTo hit columns i) old → ReleaseAt hit m i columns counts j
 
-module _ (nexts : List ℕ) (start : ℕ) (old : List ℕ) where
+module _ {nexts : List ℕ} {start : ℕ} {old : List ℕ} where
   pub release-start : start ≤ length nexts → ReleaseLoop nexts start old old start
   release-start h =
       record {
@@ -37,7 +37,7 @@ module _ (nexts : List ℕ) (start : ℕ) (old : List ℕ) where
         walked = λ hit m i columns w l v. record { passed = 0; inside = omega arith; next = w .begins; counted = rw (matched-start 0 hit columns m) v };
       }
 
-  module _ (counts : List ℕ) (j : ℕ) (v : ReleaseLoop nexts start old counts j) where
+  module _ {counts : List ℕ} {j : ℕ} (v : ReleaseLoop nexts start old counts j) where
     pub release-next : NextsSafe nexts → 1 ≤ j → ReleaseLoop nexts start old (set counts j (getD counts j 0 - 1)) (getD nexts (j - 1) 0)
     release-next safe h =
         record {

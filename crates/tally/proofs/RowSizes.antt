@@ -27,7 +27,7 @@ pub record SizeLoop (nexts : List ℕ) (start size j : ℕ) : Type 0 where
   pub below : 1 ≤ j → size < j
   pub walked : (hit : Cell → Bool) (i columns : ℕ) → RowWalk hit i columns start nexts → SizeAt hit i columns size j
 
-module _ (nexts : List ℕ) (start : ℕ) (safe : NextsSafe nexts) where
+module _ {nexts : List ℕ} {start : ℕ} (safe : NextsSafe nexts) where
   pub size-start : start ≤ length nexts → SizeLoop nexts start 0 start
   unfolding rowTo
   size-start h =
@@ -38,7 +38,7 @@ module _ (nexts : List ℕ) (start : ℕ) (safe : NextsSafe nexts) where
         walked = λ hit i columns w. record { passed = 0; inside = omega arith; next = w .begins; counted = refl };
       }
 
-  module _ (size j : ℕ) (v : SizeLoop nexts start size j) where
+  module _ {size j : ℕ} (v : SizeLoop nexts start size j) where
     pub size-next : 1 ≤ j → SizeLoop nexts start (size + 1) (getD nexts (j - 1) 0)
     size-next h =
         record {

@@ -51,7 +51,7 @@ pub record RunLoop (firsts nexts : List ℕ) (b matches run widest p : ℕ) : Ty
   pub narrow : widest ≤ matches
   pub runs : (hit : Cell → Bool) (columns : ℕ) → Described hit columns firsts nexts → RunAt hit columns b (length firsts) p run widest
 
-module _ (firsts nexts : List ℕ) (b : ℕ) (safe : WalkSafe firsts nexts) where
+module _ {firsts nexts : List ℕ} {b : ℕ} (safe : WalkSafe firsts nexts) where
   pub run-start : RunLoop firsts nexts b 0 0 0 0
   unfolding matchesTo largestTo
   run-start =
@@ -64,11 +64,11 @@ module _ (firsts nexts : List ℕ) (b : ℕ) (safe : WalkSafe firsts nexts) wher
         runs = λ hit columns d. record { running = ap (λ (m : ℕ). length (matchesTo hit columns m) + 0) e; largest = refl };
       }
 
-  module _ (matches run widest p : ℕ) (v : RunLoop firsts nexts b matches run widest p) where
-    pub run-next : (size gone run′ widest′ : ℕ) → p < length firsts → RowSized nexts (getD firsts p 0) size → Leaves firsts nexts b p gone
+  module _ {matches run widest p : ℕ} (v : RunLoop firsts nexts b matches run widest p) where
+    pub run-next : {size gone run′ widest′ : ℕ} → p < length firsts → RowSized nexts (getD firsts p 0) size → Leaves firsts nexts b p gone
         → run′ ≡ run + size - gone → widest′ ≡ max widest run′ → RunLoop firsts nexts b (matches + size) run′ widest′ (p + 1)
     unfolding matchesTo largestTo
-    run-next size gone run′ widest′ h s l er ew =
+    run-next {size} {gone} {run′} {widest′} h s l er ew =
         record {
           inside = omega arith;
           counted = before-next firsts nexts safe p matches size h (v .counted) s;

@@ -14,7 +14,7 @@ abbrev μ-loop : tie.MeasureT-loop
 μ-loop list count output₀ at₀ n₀ output at n = count - n
 
 loop-holds : tie.Need-loop-holds Inv-loop μ-loop
-loop-holds c = writing-start _ _ _
+loop-holds c = writing-start
 
 entry-at-requires : tie.Need-entry-at-requires Inv-loop μ-loop
 entry-at-requires c κs = search needs
@@ -33,13 +33,13 @@ write-entry-requires c κs = search needs
 
 add-at : tie.Need-add-at Inv-loop μ-loop
 add-at c =
-    let w = c .before .before .before .write-entry in
-    let x = c .before .before .before .before .before .entry-at in
-    let t = c .before .before .before .before .before .before .loop-test in
-    let v = c .before .before .before .before .before .before .before .loop in
-    let s = c .before .before .before .before .before .before .before .before .before .before in
-    let a = s .args in
-    omega (arith, writing-length (a .list .now) (a .output .now) (a .count) (s .pre) (v .output) (v .at) (v .n) (v .inv) (t .taken) (x .result) (x .ensures) (w .result) (w .last .1 .0) (w .ensures .0) (w .ensures .1), s .pre .few, v .inv .place)
+    let written = c .before .before .before in
+    let read = written .before .before in
+    let n = read .before in
+    let l = n .before in
+    let s = l .before .before .before in
+    let w = written .write-entry in
+    omega (arith, writing-length (s .pre) (l .loop .inv) (n .loop-test .taken) (read .entry-at .ensures) (w .ensures .0) (w .ensures .1), s .pre .few, l .loop .inv .place)
 
 add-n : tie.Need-add-n Inv-loop μ-loop
 add-n c = search needs
@@ -49,23 +49,22 @@ loop-less c = search needs
 
 loop-again : tie.Need-loop-again Inv-loop μ-loop
 loop-again c =
-    let w = c .before .before .before .write-entry in
-    let x = c .before .before .before .before .before .entry-at in
-    let t = c .before .before .before .before .before .before .loop-test in
-    let v = c .before .before .before .before .before .before .before .loop in
-    let s = c .before .before .before .before .before .before .before .before .before .before in
-    let a = s .args in
-    writing-next (a .list .now) (a .output .now) (a .count) (s .pre) (v .output) (v .at) (v .n) (v .inv) (t .taken) (x .result) (x .ensures) (w .result) (w .last .1 .0) (w .ensures .0) (w .ensures .1)
+    let written = c .before .before .before in
+    let read = written .before .before in
+    let n = read .before in
+    let l = n .before in
+    let s = l .before .before .before in
+    let w = written .write-entry in
+    writing-next (s .pre) (l .loop .inv) (n .loop-test .taken) (read .entry-at .ensures) (w .ensures .0) (w .ensures .1)
 
 same-length : tie.Need-same-length Inv-loop μ-loop
 same-length c = search needs
 
 returns : tie.Need-returns Inv-loop μ-loop
 returns c =
-    let v = c .before .loop in
-    let s = c .before .before .before .before in
-    let a = s .args in
-    writing-end (a .list .now) (a .output .now) (a .count) (s .pre) (v .output) (v .at) (v .n) (v .inv) (c .loop-test .left)
+    let l = c .before in
+    let s = l .before .before .before in
+    writing-end (s .pre) (l .loop .inv) (c .loop-test .left)
 
 pub put-entries-spec : {M : Type 1} → statement M
 put-entries-spec =

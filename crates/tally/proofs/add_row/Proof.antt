@@ -16,8 +16,7 @@ abbrev μ-loop : tie.MeasureT-loop
 loop-holds : tie.Need-loop-holds Inv-loop μ-loop
 loop-holds c =
     let s = c .before in
-    let a = s .args in
-    add-start (a .nexts .now) (a .start) (a .b) (a .counts .now) (a .links) (s .pre .1)
+    add-start (s .pre .1)
 
 minus-requires : tie.Need-minus-requires Inv-loop μ-loop
 minus-requires c κs = search needs
@@ -79,18 +78,14 @@ loop-again c =
     let m = total .before .before in
     let l = m .before .before .before in
     let s = l .before .before in
-    let a = s .args in
-    let v = l .loop in
     rw (more .wrapping-add-u32 .ensures, c .wide .ensures .0)
-    (add-next (a .nexts .now) (a .start) (a .b) (a .counts .now) (a .links) (v .counts) (v .total) (v .j) (v .inv) (s .pre .0) (omega arith)
-    (total .before .sum .result) (total .wrapping-add-u64 .result) (rw (m .minus .ensures) at (total .before .sum .ensures)) (total .wrapping-add-u64 .ensures))
+    (add-next (l .loop .inv) (s .pre .0) (omega arith)
+    (rw (m .minus .ensures) at (total .before .sum .ensures)) (total .wrapping-add-u64 .ensures))
 
 returns : tie.Need-returns Inv-loop μ-loop
 returns c =
     let l = c .before in
-    let a = l .before .before .args in
-    let v = l .loop in
-    add-end (a .nexts .now) (a .start) (a .b) (a .counts .now) (a .links) (v .counts) (v .total) (v .j) (v .inv) (omega arith)
+    add-end (l .loop .inv) (omega arith)
 
 pub add-row-spec : {M : Type 1} → statement M
 add-row-spec =

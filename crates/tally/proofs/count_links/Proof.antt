@@ -17,8 +17,7 @@ abbrev μ-loop : tie.MeasureT-loop
 
 loop-holds : tie.Need-loop-holds Inv-loop μ-loop
 loop-holds c =
-    let a = c .before .before .args in
-    link-start (a .firsts .now) (a .nexts .now) (a .b) 16385 refl
+    link-start 16385 refl
 
 release-requires : tie.Need-release-requires Inv-loop μ-loop
 release-requires c κs = (c .before .before .before .before .before .pre, c .before .loop-test .taken)
@@ -56,15 +55,12 @@ loop-again c =
     let freed = r .release .last .1 .1 .1 .1 .0 in
     let new = c .add-row .last .1 .1 .1 .0 in
     let row = subst (λ (n : ℕ). RowAdded (a .nexts .now) n (a .b) freed new (v .links) (c .add-row .result)) (w .wide .ensures .0) (c .add-row .ensures) in
-    link-next (a .firsts .now) (a .nexts .now) (a .b) (v .counts) (v .links) (v .p) (v .inv) (s .pre .few-rows) (i .loop-test .taken) freed new (c .add-row .result)
-    (r .release .ensures) row
+    link-next (v .inv) (s .pre .few-rows) (i .loop-test .taken) (r .release .ensures) row
 
 returns : tie.Need-returns Inv-loop μ-loop
 returns c =
     let l = c .before in
-    let a = l .before .before .before .args in
-    let v = l .loop in
-    link-end (a .firsts .now) (a .nexts .now) (a .b) (v .counts) (v .links) (v .p) (v .inv) (c .loop-test .left)
+    link-end (l .loop .inv) (c .loop-test .left)
 
 pub count-links-spec : {M : Type 1} → statement M
 count-links-spec =

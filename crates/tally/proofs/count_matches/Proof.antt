@@ -18,7 +18,7 @@ abbrev μ-loop : tie.MeasureT-loop
 loop-holds : tie.Need-loop-holds Inv-loop μ-loop
 loop-holds c =
     let s = c .before .before in
-    run-start (s .args .firsts .now) (s .args .nexts .now) (s .args .b) (s .pre)
+    run-start (s .pre)
 
 mul-wide : tie.Need-mul-wide Inv-loop μ-loop
 mul-wide c = omega arith
@@ -70,19 +70,15 @@ loop-again c =
     let l = i .before in
     let s = l .before .before .before in
     let a = s .args in
-    let v = l .loop in
     let size = subst (λ (n : ℕ). RowSized (a .nexts .now) n (r .row-size .result)) (r .before .wide .ensures .0) (r .row-size .ensures) in
-    run-next (a .firsts .now) (a .nexts .now) (a .b) (s .pre) (v .matches) (v .run) (v .widest) (v .p) (v .inv) (r .row-size .result)
-    (c .before .before .leaving .result) (c .before .minus .result) (c .larger .result) (i .loop-test .taken) size (c .before .before .leaving .ensures)
+    run-next (s .pre) (l .loop .inv) (i .loop-test .taken) size (c .before .before .leaving .ensures)
     (c .before .minus .ensures) (c .larger .ensures)
 
 returns : tie.Need-returns Inv-loop μ-loop
 returns c =
     let l = c .before in
     let s = l .before .before .before in
-    let a = s .args in
-    let v = l .loop in
-    run-end (a .firsts .now) (a .nexts .now) (a .b) (s .pre) (v .matches) (v .run) (v .widest) (v .p) (v .inv) (c .loop-test .left)
+    run-end (s .pre) (l .loop .inv) (c .loop-test .left)
 
 pub count-matches-spec : {M : Type 1} → statement M
 count-matches-spec =

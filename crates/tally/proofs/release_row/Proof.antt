@@ -16,7 +16,7 @@ abbrev μ-loop : tie.MeasureT-loop
 loop-holds : tie.Need-loop-holds Inv-loop μ-loop
 loop-holds c =
     let s = c .before in
-    release-start (s .args .nexts .now) (s .args .start) (s .args .counts .now) (s .pre .1)
+    release-start (s .pre .1)
 
 mul-one-less : tie.Need-mul-one-less Inv-loop μ-loop
 mul-one-less c = omega arith
@@ -59,15 +59,13 @@ loop-again : tie.Need-loop-again Inv-loop μ-loop
 loop-again c =
     let l = c .before .before .before .before .before in
     let s = l .before .before in
-    let a = s .args in
     rw (c .before .before .one-less .ensures, c .wide .ensures .0)
-    (release-next (a .nexts .now) (a .start) (a .counts .now) (l .loop .counts) (l .loop .j) (l .loop .inv) (s .pre .0) (omega arith))
+    (release-next (l .loop .inv) (s .pre .0) (omega arith))
 
 returns : tie.Need-returns Inv-loop μ-loop
 returns c =
     let l = c .before in
-    let a = l .before .before .args in
-    release-end (a .nexts .now) (a .start) (a .counts .now) (l .loop .counts) (l .loop .j) (l .loop .inv) (omega arith)
+    release-end (l .loop .inv) (omega arith)
 
 pub release-row-spec : {M : Type 1} → statement M
 release-row-spec =

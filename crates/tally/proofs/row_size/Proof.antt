@@ -16,7 +16,7 @@ abbrev μ-loop : tie.MeasureT-loop
 loop-holds : tie.Need-loop-holds Inv-loop μ-loop
 loop-holds c =
     let s = c .before in
-    size-start (s .args .nexts .now) (s .args .start) (s .pre .0) (s .pre .1)
+    size-start (s .pre .0) (s .pre .1)
 
 add-size : tie.Need-add-size Inv-loop μ-loop
 add-size c = omega (arith, c .before .loop .inv .few)
@@ -43,13 +43,13 @@ loop-again : tie.Need-loop-again Inv-loop μ-loop
 loop-again c =
     let l = c .before .before .before in
     let s = l .before .before in
-    rw (c .wide .ensures .0) (size-next (s .args .nexts .now) (s .args .start) (s .pre .0) (l .loop .size) (l .loop .j) (l .loop .inv) (omega arith))
+    rw (c .wide .ensures .0) (size-next (s .pre .0) (l .loop .inv) (omega arith))
 
 returns : tie.Need-returns Inv-loop μ-loop
 returns c =
     let l = c .before in
     let s = l .before .before in
-    size-end (s .args .nexts .now) (s .args .start) (s .pre .0) (l .loop .size) (l .loop .j) (l .loop .inv) (omega arith)
+    size-end (s .pre .0) (l .loop .inv) (omega arith)
 
 pub row-size-spec : {M : Type 1} → statement M
 row-size-spec =
