@@ -8,7 +8,6 @@ use native.Mathlib.Omega.{arith}
 use borrow.Author.Tests.{lt-ltb, le-ltb}
 use lib.ListN.{length}
 use Rattle.rules.specs.declared.Settings.{Settings}
-use Rattle.rules.specs.declared.Answer.{Answer}
 use Rattle.rules.specs.Lists.{laid, thenZeros, zeros}
 use Rattle.rules.specs.Places.{places}
 use Rattle.rules.specs.declared.Cell.{Cell}

@@ -1,8 +1,7 @@
 -- The entry points: a refused job ends with its rooms untouched, and an accepted one is the job on its own matches. Assumes nothing.
 use mathlib.Core.Path.{_≡_, sym, ap, ap₂, subst⁻¹, _∙_}
-use mathlib.Core.Bool.{Bool}
 use mathlib.Core.List.{List, []}
-use Prim.Native.Nat.{ℕ, suc, _+_, _-_, _≤_, _<_}
+use Prim.Native.Nat.{ℕ, suc, _+_, _-_, _≤_}
 use native.Mathlib.Omega.{arith}
 use borrow.Author.Tests.{eq-eqb, ne-eqb}
 use lib.ListN.{length, getD, take, replicate, length-replicate, getD-replicate, List·getD-eq-default}
@@ -15,7 +14,7 @@ use Rattle.rules.specs.Matches.{isMatch, matches, matchesTo}
 use Rattle.rules.specs.Records.{records}
 use Rattle.rules.specs.Listing.{listing}
 use Rattle.rules.specs.Rooms.{held, largestRun, matchTotal, workNeed, linkTotal}
-use Rattle.rules.specs.Answers.{Outcome, refusal, done, checked, afterChecks, compared, stopped, replied}
+use Rattle.rules.specs.Answers.{Outcome, done, checked, afterChecks, compared, stopped, replied}
 use Rattle.rules.proofs.Tests.{Three, below, equal, above, three}
 use Rattle.matches.specs.Walks.{WalkSafe, Described}
 use Rattle.prepare.specs.Prepared.{Accepted, Blank, Matched}

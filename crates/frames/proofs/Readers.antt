@@ -7,8 +7,7 @@ use native.Mathlib.Omega.{arith}
 use lib.Dec.{eqb}
 use lib.ListN.{length, getD}
 use lib.Seq.{sets}
-use borrow.Author.Tests.{eq-eqb, ne-eqb, eqb-true, eqb-false}
-use Rattle.lines.specs.declared.Frame.{Frame}
+use borrow.Author.Tests.{ne-eqb, eqb-true, eqb-false}
 use Rattle.lines.specs.Digits.{isLine, bytesIn}
 use Rattle.lines.specs.Reading.{frameIn, bytesLeft}
 use Rattle.lines.proofs.Decoding.{byte-at}

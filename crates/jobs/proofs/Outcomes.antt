@@ -1,11 +1,11 @@
 -- Each way a job ends is a line of its table: the tallies are counted from the walks, and the rooms are what the sweep left, with zeros after it.
 -- Assumes nothing.
-use mathlib.Core.Path.{_≡_, refl, sym, ap, ap₂, subst, subst⁻¹, _∙_}
-use mathlib.Core.Bool.{Bool, true, false}
-use mathlib.Core.List.{List, [], _∷_, _++_}
-use Prim.Native.Nat.{ℕ, suc, _+_, _-_, _*_, _^_, _≤_, _<_}
+use mathlib.Core.Path.{_≡_, refl, sym, ap, subst, subst⁻¹, _∙_}
+use mathlib.Core.Bool.{Bool}
+use mathlib.Core.List.{List, [], _++_}
+use Prim.Native.Nat.{ℕ, _+_, _-_, _*_, _^_, _≤_, _<_}
 use native.Mathlib.Omega.{arith}
-use native.Mathlib.Nat.{le-refl, le-of-eq, le-trans}
+use native.Mathlib.Nat.{le-of-eq}
 use borrow.Author.Tests.{lt-ltb, le-ltb}
 use lib.Dec.{ltb}
 use lib.ListN.{length, getD, take, replicate, List·getD-eq-default}
@@ -21,7 +21,7 @@ use Rattle.rules.specs.Listing.{entryNumbers}
 use Rattle.rules.specs.Rooms.{workHolds, listHolds, recordNumbers, inRun, largestRun, pairs}
 use Rattle.rules.specs.Answers.{Outcome, firstOf, refusal, zeroed}
 use Rattle.rules.proofs.Tests.{Three, below, equal, above, three}
-use Rattle.matches.specs.Walks.{RowWalk, WalkSafe, Described}
+use Rattle.matches.specs.Walks.{WalkSafe, Described}
 use Rattle.tally.specs.declared.Counts.{Counts}
 use Rattle.tally.specs.Tallies.{MatchedBefore, Counted, Linked}
 use Rattle.predecessors.specs.declared.Ring.{Ring}

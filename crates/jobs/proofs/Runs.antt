@@ -1,27 +1,23 @@
 -- W and the run of a row, for all rows and for the first r of them: where W is 0 there is no match, and fewer rows need no more room. Assumes nothing.
 use mathlib.Core.Path.{_≡_, refl, sym, ap, subst, subst⁻¹, _∙_}
-use mathlib.Core.Logic.{_⊎_, inl, inr}
-use mathlib.Core.Bool.{Bool, true, false, cond}
-use mathlib.Core.List.{List, [], _∷_, _++_, List·Memᴰ, List·Memᴰ·head, List·Memᴰ·tail}
-use Prim.Native.Nat.{ℕ, zero, suc, _+_, _-_, _*_, _%_, _^_, _≤_, _<_, max, zero-le}
+use mathlib.Core.Bool.{Bool}
+use mathlib.Core.List.{List, [], _∷_, List·Memᴰ, List·Memᴰ·head, List·Memᴰ·tail}
+use Prim.Native.Nat.{ℕ, zero, suc, _+_, _-_, _%_, _^_, _≤_, _<_, zero-le}
 use native.Mathlib.Omega.{arith}
-use native.Mathlib.Nat.{le-refl, le-trans, mod-lt, mod-self, mod-add-mod, zero-add}
+use native.Mathlib.Nat.{le-refl, mod-lt, mod-self, mod-add-mod}
 use lib.Dec.{T}
-use lib.ListN.{length}
-use Rattle.rules.specs.declared.Settings.{Settings}
 use Rattle.rules.specs.declared.Cell.{Cell}
 use Rattle.rules.specs.declared.Record.{Record}
 use Rattle.rules.specs.Lists.{keep, count, largestTo}
 use Rattle.rules.specs.Matches.{cell, matchesTo}
 use Rattle.rules.specs.Records.{recordsFrom}
 use Rattle.rules.specs.Rooms.{inRun, largestRun}
-use Rattle.rules.proofs.Tests.{tests, by-test, to-suc}
+use Rattle.rules.proofs.Tests.{tests, by-test}
 use Rattle.rules.proofs.ListLaws.{keep-none, count-append, largestTo-ge}
 use Rattle.rules.proofs.MatchList.{matches-in}
 use Rattle.rules.proofs.Sweeps.{swept-rows, swept-all, matches-split, held-window}
-use Rattle.predecessors.specs.declared.Ring.{Ring}
-use Rattle.predecessors.specs.Numbers.{RingFits, slotOf}
-use Rattle.jobs.specs.Jobs.{runOf, RingFrom}
+use Rattle.predecessors.specs.Numbers.{slotOf}
+use Rattle.jobs.specs.Jobs.{RingFrom}
 
 -- ---- W
 

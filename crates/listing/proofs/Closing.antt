@@ -1,6 +1,6 @@
 -- Whether a match is closed can be told from the latest record of each column when its row leaves: all rows that could go on from it are stored by
 -- then, and none beyond them. Assumes nothing.
-use mathlib.Core.Path.{_≡_, refl, sym, ap, _∙_}
+use mathlib.Core.Path.{_≡_, refl, ap, _∙_}
 use mathlib.Core.Logic.{_⊎_, inl, inr}
 use mathlib.Core.Bool.{Bool, true, false, _&&_, _||_, not}
 use mathlib.Core.List.{List, List·Memᴰ}

@@ -8,7 +8,7 @@ use native.Mathlib.Nat.{le-refl}
 use native.Mathlib.Numerals.{add-one}
 use borrow.Author.Tests.{lt-ltb, le-ltb}
 use lib.Dec.{ltb}
-use lib.ListN.{length, getD, take, drop, length-append}
+use lib.ListN.{length, take, drop, length-append}
 use lib.Seq.{sets, sets-eq, length-sets, take-suc, take-at, length-take-le}
 use Rattle.rules.specs.declared.Settings.{Settings}
 use Rattle.rules.specs.declared.Cell.{Cell}
@@ -24,7 +24,6 @@ use Rattle.predecessors.specs.declared.Ring.{Ring}
 use Rattle.predecessors.specs.Numbers.{slotOf, nothing, nth}
 use Rattle.predecessors.specs.Index.{InRoom}
 use Rattle.rows.specs.Machine.{Machine}
-use Rattle.listing.specs.declared.Released.{Released}
 use Rattle.listing.specs.Leaving.{passes, listedCount, listedRoom, ListedTo, ReleaseSafe, ReleaseAsks, ReleaseDone}
 use Rattle.listing.proofs.Closing.{passes-listed}
 

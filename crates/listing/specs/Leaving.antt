@@ -1,6 +1,6 @@
 -- What is known of a record when it leaves the room, and what releasing old rows leaves: the room's state and the list so far. Assumes nothing.
 use mathlib.Core.Path.{_≡_}
-use mathlib.Core.Bool.{Bool, true, false, cond, _&&_, _||_, not}
+use mathlib.Core.Bool.{Bool, false, cond, _&&_, _||_, not}
 use mathlib.Core.List.{List, List·Memᴰ}
 use Prim.Native.Nat.{ℕ, zero, suc, _+_, _-_, _*_, _^_, _≤_, _<_}
 use lib.Dec.{leb, ltb}
@@ -14,7 +14,7 @@ use Rattle.rules.specs.Rooms.{listHolds}
 use Rattle.rooms.specs.Layout.{recordIn, putEntry}
 use Rattle.predecessors.specs.declared.Ring.{Ring}
 use Rattle.predecessors.specs.Numbers.{RingFits, slotOf, nth}
-use Rattle.predecessors.specs.Index.{InRoom, Sorted}
+use Rattle.predecessors.specs.Index.{Sorted}
 use Rattle.rows.specs.Machine.{Machine}
 use Rattle.listing.specs.declared.Released.{Released}
 

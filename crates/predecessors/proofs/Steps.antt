@@ -2,9 +2,9 @@
 use mathlib.Core.Path.{_≡_, refl, sym, ap, _∙_}
 use mathlib.Core.Logic.{_⊎_, inl, inr}
 use mathlib.Core.Bool.{true, false, cond}
-use mathlib.Core.Option.{Option, none, some}
+use mathlib.Core.Option.{none, some}
 use mathlib.Core.List.{List, [], _∷_, List·Memᴰ, List·Memᴰ·head, List·Memᴰ·tail}
-use Prim.Native.Nat.{ℕ, zero, suc, _+_, _-_, _*_, _≤_, _<_}
+use Prim.Native.Nat.{ℕ, zero, suc, _+_, _-_, _≤_, _<_}
 use native.Mathlib.Omega.{arith}
 use borrow.Author.Tests.{ne-eqb, le-leb, lt-leb}
 use lib.Dec.{T, leb}
@@ -20,7 +20,7 @@ use Rattle.rooms.proofs.Slots.{holds-record}
 use Rattle.predecessors.specs.declared.Ring.{Ring}
 use Rattle.predecessors.specs.Numbers.{slotOf, numbered, nth}
 use Rattle.predecessors.specs.Index.{Known, Nearest, no-near, has-near, Ready, Found}
-use Rattle.predecessors.proofs.Walks.{Near, Walk, Best, beyond, best-is, is-near, walk-none, walk-near, walk-skip, walk-take, walk-end, walk-stop}
+use Rattle.predecessors.proofs.Walks.{Near, Walk, beyond, best-is, is-near, walk-none, walk-near, walk-skip, walk-take, walk-end, walk-stop}
 
 pub cond-yes : (lo column x y : ℕ) → lo ≤ column → x ≡ cond (leb lo column) x y
 cond-yes lo column x y h = rw (le-leb lo column h)

@@ -21,7 +21,6 @@ use Rattle.rules.proofs.Starts.{sweep-fixed}
 use Rattle.rules.proofs.Sweeps.{matchedTo, sweptTo}
 use Rattle.predecessors.specs.Numbers.{nth}
 use Rattle.predecessors.specs.Index.{Farther, Single, Known, Sorted}
-use Rattle.predecessors.proofs.Steps.{mem-nth}
 
 after-weight : (c : Cell) (o : Option Record) → recordAfter c o .weight ≡ suc (heavy o)
 unfolding recordAfter

@@ -10,10 +10,10 @@ use Rattle.rules.specs.declared.Cell.{Cell}
 use Rattle.rules.specs.declared.Record.{Record}
 use Rattle.rules.specs.Chains.{leftExtension}
 use Rattle.rules.specs.Records.{beats, better, pick}
-use Rattle.rules.proofs.Tests.{by-test, Three, below, equal, above, three}
+use Rattle.rules.proofs.Tests.{Three, below, equal, above, three}
 use Rattle.rules.proofs.LeftExtensions.{Extends, extend-facts, facts-extend}
 use Rattle.rules.proofs.Weights.{Sure, pick-sure, better-sure}
-use Rattle.rules.proofs.Ties.{Beats, by-weight, by-column, by-row, beats-is, is-beats, beats-trans, beats-irrefl, Under, better-new, better-old, pick-first}
+use Rattle.rules.proofs.Ties.{by-weight, by-column, by-row, is-beats, beats-trans, beats-irrefl, Under, better-new, better-old, pick-first}
 use Rattle.predecessors.specs.Index.{Single, Known}
 
 -- ---- one that weighs less is not before, and stays so

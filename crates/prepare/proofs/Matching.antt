@@ -1,10 +1,10 @@
 -- The walks over columns are those of the job's own matches: they are told from codes alone, and codes are the k-mers'. Assumes nothing.
-use mathlib.Core.Path.{_≡_, refl, sym, ap, subst, subst⁻¹, _∙_}
+use mathlib.Core.Path.{_≡_, sym, ap, subst, subst⁻¹, _∙_}
 use mathlib.Core.Bool.{Bool}
 use mathlib.Core.List.{List, _++_}
 use Prim.Native.Nat.{ℕ, suc, _-_, _≤_, _<_}
 use native.Mathlib.Omega.{arith}
-use lib.ListN.{length, getD, take, drop, List·getD-eq-default}
+use lib.ListN.{length, getD, take, List·getD-eq-default}
 use lib.Seq.{take-at, getD-take, length-take-le}
 use Rattle.rules.specs.declared.Settings.{Settings}
 use Rattle.rules.specs.declared.Cell.{Cell}
@@ -14,7 +14,7 @@ use Rattle.rules.specs.Codes.{codes, codeMatch}
 use Rattle.rules.proofs.Tests.{Three, below, equal, above, three}
 use Rattle.rules.proofs.Kmers.{codes-length, match-by-code}
 use Rattle.matches.specs.Columns.{FirstColumns, NextColumns}
-use Rattle.matches.specs.Walks.{RowWalk, NextsSafe, WalkSafe, Described}
+use Rattle.matches.specs.Walks.{RowWalk}
 use Rattle.matches.proofs.Totals.{firsts-within}
 use Rattle.matches.proofs.Links.{nexts-within, nexts-rise}
 use Rattle.matches.proofs.Rows.{row-walk}

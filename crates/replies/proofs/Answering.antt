@@ -1,5 +1,5 @@
 -- The lines written for a job are its whole output. Assumes nothing.
-use mathlib.Core.Path.{_≡_, refl, sym, ap, subst⁻¹, _∙_}
+use mathlib.Core.Path.{_≡_, sym, ap, subst⁻¹, _∙_}
 use mathlib.Core.Bool.{true}
 use mathlib.Core.List.{List, _++_, map}
 use Prim.Native.Nat.{ℕ, _+_, _-_, _*_, _≤_, _<_}
@@ -9,10 +9,9 @@ use borrow.Rule.Slice.PartMut.{midOf, putMid}
 use lib.ListN.{length, getD, drop, replicate, length-append, length-drop, length-replicate}
 use Rattle.rules.specs.declared.Settings.{Settings}
 use Rattle.rules.specs.declared.Answer.{Answer}
-use Rattle.rules.specs.declared.Record.{Record}
 use Rattle.rules.specs.Lists.{laid, thenZeros}
 use Rattle.rules.specs.Listing.{listing, entryNumbers}
-use Rattle.rules.specs.Rooms.{workHolds, listHolds, matchTotal, workNeed}
+use Rattle.rules.specs.Rooms.{workHolds, listHolds, workNeed}
 use Rattle.rules.specs.Answers.{Outcome, refusal, done, zeroed, checked, compared}
 use Rattle.prepare.proofs.Checking.{accepted}
 use Rattle.compare.proofs.Demands.{Compared, refused, no-work-room, no-list-room, listed, demand-1}
@@ -20,7 +19,6 @@ use Rattle.lines.specs.declared.Written.{Written}
 use Rattle.lines.specs.Writing.{written, leaves}
 use Rattle.lines.proofs.Lines.{line-length}
 use Rattle.frames.specs.declared.Done.{Done}
-use Rattle.frames.specs.declared.Entry.{Entry}
 use Rattle.frames.specs.declared.Refused.{Refused}
 use Rattle.payloads.specs.Numbers.{numberBytes}
 use Rattle.frames.specs.Kinds.{entryFits, entryLine, donePayload, doneFits, doneLine, refusedPayload, refusedFits, refusedLine}

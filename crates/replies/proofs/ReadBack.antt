@@ -1,14 +1,14 @@
 -- The entries of a list room are those of the listing that was laid out in it. Assumes nothing.
-use mathlib.Core.Path.{_≡_, refl, sym, ap, subst, _∙_}
+use mathlib.Core.Path.{_≡_, refl, sym, ap, _∙_}
 use mathlib.Core.List.{List, [], _∷_, _++_, map, append-assoc, List·Memᴰ, List·Memᴰ·head, List·Memᴰ·tail}
 use Prim.Native.Nat.{ℕ, zero, suc, _+_, _-_, _*_, _≤_, _<_}
 use native.Mathlib.Nat.{not-suc-le-zero, le-of-suc-le-suc}
 use native.Mathlib.Omega.{arith}
-use lib.ListN.{length, getD, take, drop, length-append}
+use lib.ListN.{length, getD, take, drop}
 use lib.Seq.{take-suc, split-at, getD-append-add, length-take-le, take-all}
 use Rattle.rules.specs.declared.Record.{Record}
 use Rattle.rules.specs.Lists.{laid}
-use Rattle.rules.specs.Listing.{entryNumbers, ends}
+use Rattle.rules.specs.Listing.{entryNumbers}
 use Rattle.frames.specs.declared.Entry.{Entry}
 use Rattle.frames.specs.Kinds.{entryLine}
 use Rattle.replies.specs.Output.{entryOf}

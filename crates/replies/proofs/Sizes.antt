@@ -1,35 +1,34 @@
 -- Every number of an answer fits its field in a frame: places are at most 16,384, weights at most 32,768, matches at most 2^28. Assumes nothing.
-use mathlib.Core.Path.{_≡_, refl, sym, ap, subst, _∙_}
+use mathlib.Core.Path.{_≡_, refl, ap}
 use mathlib.Core.Bool.{Bool, true, false, cond}
-use mathlib.Core.List.{List, [], _∷_, _++_, map, List·Memᴰ}
+use mathlib.Core.List.{List, [], _∷_, map, List·Memᴰ}
 use Prim.Native.Nat.{ℕ, zero, suc, _+_, _-_, _*_, _≤_, _<_}
 use native.Mathlib.Nat.{le-trans, mul-le-mul}
 use native.Mathlib.Omega.{arith}
-use lib.Dec.{T, ltb}
+use lib.Dec.{ltb}
 use lib.ListN.{length, length-append, length-map}
 use borrow.Author.Tests.{lt-ltb, ltb-true, ltb-false}
 use Rattle.rules.specs.declared.Settings.{Settings}
 use Rattle.rules.specs.declared.Answer.{Answer}
 use Rattle.rules.specs.declared.Cell.{Cell}
 use Rattle.rules.specs.declared.Record.{Record}
-use Rattle.rules.specs.Lists.{keep, count, countTo, largestTo}
+use Rattle.rules.specs.Lists.{keep, count, countTo}
 use Rattle.rules.specs.Letters.{badPlace}
 use Rattle.rules.specs.Places.{places}
 use Rattle.rules.specs.Matches.{isMatch, matches, rowTo, matchesTo}
-use Rattle.rules.specs.Chains.{Chain, one, more, leftExtension}
+use Rattle.rules.specs.Chains.{Chain, one, more}
 use Rattle.rules.specs.Records.{records}
 use Rattle.rules.specs.Listing.{listing, isListed, ends}
 use Rattle.rules.specs.Rooms.{matchTotal, workNeed, largestRun, inRun}
 use Rattle.rules.specs.Answers.{firstOf, refusal, outside, checked}
 use Rattle.rules.proofs.Tests.{by-test}
-use Rattle.rules.proofs.ListLaws.{countTo-mono, largestTo-le, count-length}
+use Rattle.rules.proofs.ListLaws.{largestTo-le, count-length}
 use Rattle.rules.proofs.LeftExtensions.{extend-facts}
 use Rattle.rules.proofs.Bounds.{row-length}
 use Rattle.rules.proofs.Listings.{keep-in}
 use Rattle.rules.proofs.Weights.{chain-hit}
 use Rattle.rules.proofs.Jobs.{match-inside, start-of-heaviest}
 use Rattle.rules.proofs.Theorems.{one-record-each}
-use Rattle.letters.specs.FirstBad.{FirstBad}
 use Rattle.letters.proofs.FirstBad.{bad-first}
 use Rattle.prepare.specs.Prepared.{Accepted}
 use Rattle.frames.specs.Kinds.{entryFits}

@@ -1,7 +1,7 @@
 -- One more record keeps the state: it goes into a slot that no held record has, and its column's latest number is its own. Assumes nothing.
 use mathlib.Core.Path.{_≡_, refl, sym, ap, subst, _∙_}
 use mathlib.Core.Option.{Option, none, some}
-use mathlib.Core.List.{List, [], _∷_, _++_, List·Memᴰ}
+use mathlib.Core.List.{List, [], _∷_, _++_}
 use Prim.Native.Nat.{ℕ, _+_, _-_, _*_, _%_, _^_, _≤_, _<_}
 use native.Mathlib.Omega.{arith}
 use native.Mathlib.Nat.{mod-lt, mod-eq-of-lt, mod-eq-sub-mod, mod-add-mod}
@@ -19,7 +19,7 @@ use Rattle.rooms.specs.Layout.{recordIn, Holds, putRecord}
 use Rattle.rooms.proofs.Slots.{put-same, put-other}
 use Rattle.predecessors.specs.declared.Ring.{Ring}
 use Rattle.predecessors.specs.Numbers.{slotOf, numbered, nothing, nth}
-use Rattle.predecessors.specs.Index.{InRoom, Columns, Ready, Found}
+use Rattle.predecessors.specs.Index.{InRoom, Ready, Found}
 use Rattle.predecessors.proofs.Steps.{numbered-none, numbered-some}
 use Rattle.rows.specs.Machine.{Machine, nextRecord, Light, AddSafe, Added}
 

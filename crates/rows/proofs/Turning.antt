@@ -1,8 +1,8 @@
 -- A row turn by turn: from match to next match the sweep has one record more, and columns with no match add nothing. Assumes nothing.
 use mathlib.Core.Path.{_≡_, refl, sym, ap, subst, _∙_}
 use mathlib.Core.Bool.{Bool, true, false, cond}
-use mathlib.Core.List.{List, [], _∷_, _++_, List·Memᴰ}
-use Prim.Native.Nat.{ℕ, zero, suc, _+_, _-_, _*_, _^_, _≤_, _<_}
+use mathlib.Core.List.{List, [], _∷_, _++_}
+use Prim.Native.Nat.{ℕ, zero, suc, _+_, _-_, _^_, _≤_, _<_}
 use native.Mathlib.Omega.{arith}
 use native.Mathlib.Nat.{le-refl}
 use native.Mathlib.Decide.{le-ind}
@@ -19,7 +19,7 @@ use Rattle.rules.proofs.Sweeps.{sweptTo, swept-hit, swept-miss}
 use Rattle.matches.specs.Walks.{NextMatch, none-left, next-is, RowWalk}
 use Rattle.predecessors.specs.declared.Ring.{Ring}
 use Rattle.predecessors.specs.Numbers.{nth}
-use Rattle.predecessors.specs.Index.{Nearest, no-near, has-near, Ready}
+use Rattle.predecessors.specs.Index.{Nearest, has-near, Ready}
 use Rattle.predecessors.proofs.Steps.{mem-nth}
 use Rattle.predecessors.proofs.Swept.{Place, swept-place, swept-sorted, swept-before, swept-light}
 use Rattle.rows.specs.Machine.{Machine, Light, AddSafe, Added}

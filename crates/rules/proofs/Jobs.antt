@@ -1,18 +1,15 @@
 -- Of every job: its list of matches, and its records, which have the heaviest weights and the starts. Assumes nothing.
 use mathlib.Core.Path.{_≡_, sym, subst⁻¹}
 use mathlib.Core.Logic.{_⊎_, inl, inr}
-use mathlib.Core.Option.{Option, none, some}
 use mathlib.Core.List.{List, [], map, List·Memᴰ, List·Memᴰ·not-nil, Memᴰ·of-map}
-use Prim.Native.Nat.{ℕ, zero, suc, _≤_}
-use native.Mathlib.Omega.{arith}
-use lib.Dec.{T, leb, leb→le}
-use lib.ListN.{take, drop}
+use Prim.Native.Nat.{ℕ, _≤_}
+use lib.Dec.{T}
 use Rattle.rules.specs.declared.Settings.{Settings}
-use Rattle.rules.specs.Places.{places, kmerAt, packOn, sameKmer, total}
+use Rattle.rules.specs.Places.{places, kmerAt, sameKmer, total}
 use Rattle.rules.specs.Matches.{Cell, cell, isMatch, matches}
 use Rattle.rules.specs.Chains.{Chain, Heaviest, Start}
 use Rattle.rules.specs.Records.{Record, recordOf, records}
-use Rattle.rules.proofs.Tests.{tests, by-test}
+use Rattle.rules.proofs.Tests.{tests}
 use Rattle.rules.proofs.Kmers.{kmer-place, same-sym}
 use Rattle.rules.proofs.MatchList.{Inside, matches-in, matches-has, matches-ordered}
 use Rattle.rules.proofs.Weights.{Right, sweep-right, sweep-cells}

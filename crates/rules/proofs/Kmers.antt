@@ -1,8 +1,8 @@
 -- Equal packed codes mean equal k-mers: a code of k bases gives back each base, and a base its letter, so matches can be told from codes alone.
 -- Assumes nothing.
-use mathlib.Core.Path.{_≡_, refl, sym, ap, ap₂, subst, subst⁻¹, _∙_}
+use mathlib.Core.Path.{_≡_, refl, sym, ap, ap₂, subst, _∙_}
 use mathlib.Core.Logic.{_⊎_, inl, inr}
-use mathlib.Core.Bool.{Bool, true, false, cond, _&&_}
+use mathlib.Core.Bool.{true, false, _&&_}
 use mathlib.Core.Option.{Option, none, some}
 use mathlib.Core.List.{List, [], _∷_, _++_}
 use Prim.Native.Nat.{ℕ, zero, suc, _+_, _-_, _*_, _≤_, _<_}
@@ -14,9 +14,9 @@ use lib.Seq.{getD-at}
 use Rattle.rules.specs.declared.Settings.{Settings}
 use Rattle.rules.specs.Lists.{text, placeFrom, countTo}
 use Rattle.rules.specs.Places.{places, baseOf, allBases, lettersAt, kmerAt, packOn, packed, sameLetters, sameKmer, total}
-use Rattle.rules.specs.Matches.{Cell, cell, isMatch}
+use Rattle.rules.specs.Matches.{Cell, isMatch}
 use Rattle.rules.specs.Codes.{kmerCode, codesTo, codes, codeAt, occurrences, codeTotal, codeMatch}
-use Rattle.rules.proofs.Tests.{tests, by-test, tested, to-suc, T-true, T-false, Three, below, equal, above, three}
+use Rattle.rules.proofs.Tests.{tests, by-test, tested, T-true, T-false, Three, below, equal, above, three}
 use Rattle.rules.proofs.ListLaws.{countTo-same}
 
 -- ---- the same letters

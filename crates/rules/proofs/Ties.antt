@@ -1,18 +1,16 @@
 -- The tie rule is a strict order, and what is picked comes first in it. Assumes nothing.
 use mathlib.Core.Path.{_≡_, subst, subst⁻¹}
 use mathlib.Core.Logic.{_⊎_, inl, inr}
-use mathlib.Core.Bool.{Bool, true, false, cond}
+use mathlib.Core.Bool.{true, false, cond}
 use mathlib.Core.Option.{Option, none, some}
 use mathlib.Core.List.{List, [], _∷_, List·Memᴰ, List·Memᴰ·head, List·Memᴰ·tail}
-use Prim.Native.Nat.{ℕ, suc, _+_, _≤_, _<_}
+use Prim.Native.Nat.{ℕ, _≤_, _<_}
 use native.Mathlib.Omega.{arith}
 use lib.Dec.{T, ltb}
 use Rattle.rules.specs.Matches.{Cell, cell}
-use Rattle.rules.specs.Chains.{leftExtension, more}
+use Rattle.rules.specs.Chains.{leftExtension}
 use Rattle.rules.specs.Records.{Record, beats, better, pick}
 use Rattle.rules.proofs.Tests.{tests, by-test, tested, T-true, T-false}
-use Rattle.rules.proofs.LeftExtensions.{Extends, facts-extend}
-use Rattle.rules.proofs.Weights.{chain-hit, Right}
 
 -- x is the predecessor before y, by its three reasons
 pub data Beats (x y : Record) : Type 0 where

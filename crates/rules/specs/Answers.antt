@@ -1,7 +1,7 @@
 -- Document 01, "Numbers the registry may receive": the whole outcome of the compare job and of the stopped sweep, every number of the
 -- rooms with it, and the reply over the C boundary. Assumes nothing.
 use mathlib.Core.Bool.{Bool, cond, _||_}
-use mathlib.Core.List.{List, [], _∷_, _++_}
+use mathlib.Core.List.{List, [], _∷_}
 use Prim.Native.Nat.{ℕ, _+_}
 use lib.Dec.{ltb, eqb}
 use lib.ListN.{length}

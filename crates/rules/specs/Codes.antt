@@ -1,9 +1,9 @@
 -- Document 01: "The sweep relies only on equal codes meaning equal k-mers." The number that stands for a place below the sweep, and matches
 -- told from these numbers alone. That they are the matches of Matches.antt is proved (proofs/Theorems.antt). Assumes nothing.
-use mathlib.Core.Bool.{Bool, cond, _&&_}
+use mathlib.Core.Bool.{Bool, _&&_}
 use mathlib.Core.Option.{Option, none, some}
 use mathlib.Core.List.{List, [], _∷_, _++_}
-use Prim.Native.Nat.{ℕ, zero, suc, _+_, _-_}
+use Prim.Native.Nat.{ℕ, zero, suc, _+_}
 use lib.Dec.{leb, ltb, eqb}
 use lib.ListN.{length, getD}
 use Rattle.rules.specs.Lists.{countTo}

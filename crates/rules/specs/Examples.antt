@@ -4,9 +4,8 @@ use mathlib.Core.List.{List, [], _∷_, map}
 use Prim.Native.Nat.{ℕ}
 use lib.ListN.{replicate}
 use Rattle.rules.specs.declared.Settings.{Settings}
-use Rattle.rules.specs.declared.Answer.{Answer}
 use Rattle.rules.specs.Lists.{text, thenZeros}
-use Rattle.rules.specs.Matches.{Cell, cell, matches}
+use Rattle.rules.specs.Matches.{cell, matches}
 use Rattle.rules.specs.Answers.{Outcome, refusal, compared, stopped, replied}
 
 -- what is asked: the compare job with its two rooms, or the stopped sweep with its room and row

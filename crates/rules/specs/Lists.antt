@@ -1,5 +1,5 @@
 -- Lists kept, counted, summed and laid out by tests that compute: the words in which the other files speak. Assumes nothing.
-use mathlib.Core.Bool.{Bool, true, false, cond, _||_}
+use mathlib.Core.Bool.{Bool, false, cond, _||_}
 use mathlib.Core.List.{List, [], _∷_, _++_}
 use Prim.Native.Nat.{ℕ, zero, suc, _+_, _-_, max}
 use Prim.Native.String.{String, len, charAt}

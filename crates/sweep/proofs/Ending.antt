@@ -1,9 +1,8 @@
 -- What stands at the end of a sweep: every record released and the listing whole, or the last row's run from the front of the room. Assumes nothing.
-use mathlib.Core.Path.{_≡_, refl, sym, ap, subst, subst⁻¹, _∙_}
-use mathlib.Core.Logic.{_⊎_, inl, inr}
+use mathlib.Core.Path.{_≡_, refl, sym, ap, subst, _∙_}
 use mathlib.Core.Bool.{Bool}
 use mathlib.Core.List.{List, [], _∷_, _++_, map, List·Memᴰ, List·Memᴰ·head, List·Memᴰ·tail}
-use Prim.Native.Nat.{ℕ, zero, suc, _+_, _-_, _*_, _/_, _%_, _^_, _≤_, _<_, max}
+use Prim.Native.Nat.{ℕ, zero, suc, _+_, _-_, _*_, _/_, _%_, _≤_, _<_}
 use native.Mathlib.Omega.{arith}
 use native.Mathlib.Nat.{zero-add, mod-eq-of-lt, mod-add-mod}
 use lib.Dec.{T}
@@ -15,7 +14,7 @@ use Rattle.rules.specs.declared.Record.{Record}
 use Rattle.rules.specs.Lists.{keep, laid, thenZeros}
 use Rattle.rules.specs.Matches.{cell, matchesTo}
 use Rattle.rules.specs.Records.{recordsFrom}
-use Rattle.rules.specs.Rooms.{recordNumbers, inRun, largestRun}
+use Rattle.rules.specs.Rooms.{recordNumbers, inRun}
 use Rattle.rules.proofs.Tests.{tests, Three, below, equal, above, three}
 use Rattle.rules.proofs.ListLaws.{keep-rest, laid-length, laid-at}
 use Rattle.rules.proofs.MatchList.{matches-in}

@@ -3,7 +3,7 @@
 use mathlib.Core.Path.{_≡_, refl, sym, ap, subst, subst⁻¹, _∙_}
 use mathlib.Core.Bool.{Bool, true, false}
 use mathlib.Core.List.{List, [], _∷_, _++_}
-use Prim.Native.Nat.{ℕ, zero, suc, _+_, _-_, _≤_, _<_, max}
+use Prim.Native.Nat.{ℕ, zero, suc, _+_, _-_, _≤_, _<_}
 use native.Mathlib.Omega.{arith}
 use native.Mathlib.Nat.{le-refl}
 use lib.Dec.{T}
@@ -21,7 +21,7 @@ use Rattle.rules.proofs.Sweeps.{sweptTo, swept-hit, swept-miss, windowTo, windo
 use Rattle.predecessors.specs.declared.Ring.{Ring}
 use Rattle.predecessors.specs.Numbers.{nothing, nth}
 use Rattle.predecessors.proofs.Steps.{mem-nth}
-use Rattle.predecessors.proofs.Swept.{Place, swept-place}
+use Rattle.predecessors.proofs.Swept.{swept-place}
 use Rattle.rows.proofs.Adding.{nth-old, nth-new, length-snoc}
 
 -- ---- a row's part of the records

@@ -1,20 +1,18 @@
 -- The sweep from row to row: release keeps the state and lists what leaves, the row is stored behind it, and so to the last row. Assumes nothing.
 use mathlib.Core.Path.{_≡_, refl, sym, ap, subst, subst⁻¹, _∙_}
-use mathlib.Core.Bool.{Bool, cond}
-use mathlib.Core.List.{List, [], _∷_, map, List·Memᴰ, Memᴰ·map, Memᴰ·of-map}
+use mathlib.Core.Bool.{Bool}
+use mathlib.Core.List.{List, [], map, List·Memᴰ, Memᴰ·map, Memᴰ·of-map}
 use Prim.Native.Nat.{ℕ, suc, _+_, _-_, _*_, _^_, _≤_, _<_}
 use native.Mathlib.Omega.{arith}
-use native.Mathlib.Nat.{le-refl}
 use native.Mathlib.Numerals.{add-one}
 use borrow.Author.Tests.{eq-eqb, ne-eqb}
-use lib.Dec.{T, eqb}
+use lib.Dec.{eqb}
 use lib.ListN.{length, getD, take}
 use Rattle.rules.specs.declared.Settings.{Settings}
 use Rattle.rules.specs.declared.Cell.{Cell}
 use Rattle.rules.specs.declared.Record.{Record}
 use Rattle.rules.specs.Lists.{keep, laid}
 use Rattle.rules.specs.Matches.{cell, matchesTo}
-use Rattle.rules.specs.Records.{recordsFrom}
 use Rattle.rules.specs.Rooms.{largestRun}
 use Rattle.rules.proofs.Tests.{Three, below, equal, above, three}
 use Rattle.rules.proofs.Weights.{sweep-cells}
@@ -30,7 +28,6 @@ use Rattle.rows.specs.Machine.{Machine}
 use Rattle.rows.specs.Rows.{Late, RowState, RowFits, RowSafe, RowDone}
 use Rattle.listing.specs.declared.Released.{Released}
 use Rattle.listing.specs.Leaving.{ListedTo, ReleaseSafe, ReleaseAsks, ReleaseDone}
-use Rattle.sweep.specs.declared.Swept.{Swept}
 use Rattle.sweep.specs.Latest.{NoneLatest}
 use Rattle.sweep.specs.Sweeping.{laterFrom, SweepSafe, Describes, SweepDone}
 use Rattle.sweep.proofs.Parts.{Parted, row-parted, old-row, row-room, front-same}

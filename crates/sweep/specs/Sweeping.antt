@@ -7,7 +7,6 @@ use lib.Dec.{eqb}
 use lib.ListN.{length, take}
 use Rattle.rules.specs.declared.Settings.{Settings}
 use Rattle.rules.specs.declared.Cell.{Cell}
-use Rattle.rules.specs.declared.Record.{Record}
 use Rattle.rules.specs.Lists.{keep, laid, thenZeros}
 use Rattle.rules.specs.Matches.{matchesTo}
 use Rattle.rules.specs.Records.{recordsFrom}

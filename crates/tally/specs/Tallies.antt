@@ -2,8 +2,8 @@
 use mathlib.Core.Path.{_≡_}
 use mathlib.Core.Bool.{Bool}
 use mathlib.Core.List.{List}
-use Prim.Native.Nat.{ℕ, suc, _+_, _-_, _*_, _≤_, _<_}
-use lib.ListN.{length, getD}
+use Prim.Native.Nat.{ℕ, _+_, _-_, _*_, _≤_}
+use lib.ListN.{length}
 use Rattle.rules.specs.declared.Cell.{Cell}
 use Rattle.rules.specs.Matches.{rowTo, matchesTo}
 use Rattle.rules.specs.Rooms.{largestRun, pairs}

@@ -1,6 +1,5 @@
 -- `exchange::answer` meets its contract: the input is read, and its refusal or its job is written. Assumes nothing.
 use mathlib.Core.Path.{sym}
-use native.Mathlib.Omega.{arith}
 use lib.Seq.{length-take-le}
 use Rattle.exchange.specs.Whole.{inputRefusal}
 use Rattle.exchange.proofs.Bounded.{refusal-fits, first-count, second-count, front-fits, front-letters, short-output, long-output, refused-lines, job-lines}

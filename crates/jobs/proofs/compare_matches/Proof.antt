@@ -1,6 +1,4 @@
 -- `jobs::compare_matches` meets its contract: each return is a line of the table. Assumes nothing.
-use mathlib.Core.Path.{_≡_, ap, _∙_}
-use Prim.Native.Nat.{ℕ, _*_, _≤_}
 use native.Mathlib.Omega.{arith}
 use lib.ListN.{length}
 use Rattle.rules.specs.Rooms.{workHolds, listHolds}

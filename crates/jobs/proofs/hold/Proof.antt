@@ -1,5 +1,5 @@
 -- `jobs::hold` meets its contract: with W 0 no run has a record, and else the sweep of the first rows leaves the run. Assumes nothing.
-use mathlib.Core.Path.{_≡_, sym, ap, _∙_}
+use mathlib.Core.Path.{sym, ap, _∙_}
 use Prim.Native.Nat.{ℕ, _-_}
 use native.Mathlib.Omega.{arith}
 use lib.Seq.{length-take-le}

@@ -1,5 +1,4 @@
 -- `jobs::stop_matches` meets its contract: each return is a line of the table. Assumes nothing.
-use mathlib.Core.Path.{_≡_, ap, _∙_}
 use native.Mathlib.Omega.{arith}
 use Rattle.rules.specs.Rooms.{workHolds}
 use Rattle.jobs.proofs.Outcomes.{stopped-7, stopped-19, stopped-0}

@@ -1,6 +1,5 @@
 -- `listing::is_listed` meets its contract: each return is one of the three tests that fails, or none. Assumes nothing.
-use mathlib.Core.Path.{_≡_, sym, ap, _∙_}
-use Prim.Native.Nat.{ℕ}
+use mathlib.Core.Path.{sym, ap, _∙_}
 use native.Mathlib.Omega.{arith}
 use Rattle.rules.specs.Listing.{firstSpan, secondSpan}
 use Rattle.listing.specs.Leaving.{laterIn, someAfter}

@@ -1,6 +1,6 @@
 -- `listing::is_open` meets its contract: none of the n columns looked at so far has a later match. Assumes nothing.
 use mathlib.Core.Path.{_≡_, sym, ap, _∙_}
-use mathlib.Core.Bool.{Bool, true, false}
+use mathlib.Core.Bool.{false}
 use Prim.Native.Nat.{ℕ, _≤_, _-_}
 use native.Mathlib.Omega.{arith}
 use Rattle.listing.specs.Leaving.{laterIn, someAfter}

@@ -1,5 +1,5 @@
 -- `listing::list_record` meets its contract: one case for each way the entry goes. Assumes nothing.
-use mathlib.Core.Path.{_≡_, sym, _∙_}
+use mathlib.Core.Path.{sym, _∙_}
 use native.Mathlib.Omega.{arith}
 use Rattle.rules.specs.Rooms.{listHolds}
 use Rattle.listing.proofs.Releasing.{count-yes, count-no, room-put, room-full, room-no}

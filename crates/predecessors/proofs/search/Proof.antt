@@ -1,6 +1,6 @@
 -- `predecessors::search` meets its contract: the walk has passed the columns above q, and what it has is the best of them, of the row on the left and of
 -- what lies below `stop`. Assumes nothing.
-use mathlib.Core.Path.{_≡_, ap, _∙_}
+use mathlib.Core.Path.{ap, _∙_}
 use mathlib.Core.Bool.{cond}
 use Prim.Native.Nat.{ℕ, _+_, _-_, _≤_}
 use native.Mathlib.Omega.{arith}

@@ -1,6 +1,5 @@
 -- `predecessors::weigh` meets its contract: both records are read from their slots, and the tie rule decides. Assumes nothing.
-use mathlib.Core.Path.{_≡_, sym, ap, _∙_}
-use Prim.Native.Nat.{ℕ}
+use mathlib.Core.Path.{sym, ap, _∙_}
 use native.Mathlib.Omega.{arith}
 use Rattle.rooms.specs.Layout.{recordIn}
 use Rattle.predecessors.proofs.Steps.{weigh-first, weigh-new, weigh-old}

@@ -1,10 +1,9 @@
 -- `prepare::match_up` meets its contract: both passes wrote the codes of all places, and the matches are found from these. Assumes nothing.
 use mathlib.Core.Path.{_≡_, sym, ap, subst, _∙_}
 use mathlib.Core.List.{List}
-use Prim.Native.Nat.{ℕ, suc, _-_, _≤_}
+use Prim.Native.Nat.{ℕ, suc, _-_}
 use native.Mathlib.Omega.{arith}
 use lib.ListN.{length, take}
-use lib.Seq.{length-take-le}
 use Rattle.rules.specs.Places.{places}
 use Rattle.rules.specs.Codes.{codes}
 use Rattle.rules.proofs.Kmers.{codes-length}

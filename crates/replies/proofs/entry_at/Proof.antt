@@ -1,6 +1,4 @@
 -- `replies::entry_at` meets its contract: each number is read from its place. Assumes nothing.
-use mathlib.Core.Path.{refl}
-use native.Mathlib.Omega.{arith}
 use Rattle.replies.specs.Entries.{entryIn}
 use borrow.Author.Needs.{needs}
 use Rattle.replies.proofs.entry_at.Statement.{statement}

@@ -1,5 +1,4 @@
 -- `replies::put_entries` meets its contract: the first n entries stand as lines, and behind them what was there. Assumes nothing.
-use mathlib.Core.Path.{_≡_}
 use Prim.Native.Nat.{_-_}
 use native.Mathlib.Omega.{arith}
 use Rattle.replies.proofs.Writing.{Writing, writing-start, writing-length, writing-next, writing-end}

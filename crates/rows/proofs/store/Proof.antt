@@ -1,5 +1,5 @@
 -- `rows::store` meets its contract: the new record is that of its predecessor plus 1, read from its slot. Assumes nothing.
-use mathlib.Core.Path.{_≡_, ap, _∙_}
+use mathlib.Core.Path.{ap, _∙_}
 use Rattle.rules.specs.Matches.{cell}
 use Rattle.rooms.specs.Layout.{recordIn}
 use Rattle.rows.proofs.Adding.{store-none, store-some}

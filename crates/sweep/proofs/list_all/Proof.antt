@@ -1,5 +1,5 @@
 -- `sweep::list_all` meets its contract: after the last row all is released, so that what is listed of the released is the whole listing. Assumes nothing.
-use mathlib.Core.Path.{_≡_, ap}
+use mathlib.Core.Path.{ap}
 use Prim.Native.Nat.{ℕ, _+_}
 use native.Mathlib.Omega.{arith}
 use lib.ListN.{length}

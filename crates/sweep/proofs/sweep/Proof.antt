@@ -1,10 +1,7 @@
 -- `sweep::sweep` meets its contract: after k rows the state is that of k rows, whatever matches the slices describe. Assumes nothing.
-use mathlib.Core.Path.{_≡_, subst, subst⁻¹}
-use Prim.Native.Nat.{ℕ, _+_, _-_}
+use Prim.Native.Nat.{_-_}
 use native.Mathlib.Omega.{arith}
 use lib.ListN.{length}
-use Rattle.rows.specs.Rows.{RowDone}
-use Rattle.sweep.specs.Sweeping.{laterFrom}
 use Rattle.sweep.proofs.Sweeping.{SweepInv, sweep-start, sweep-end, sweep-next, release-safe, row-safe}
 use borrow.Author.Needs.{needs}
 use Rattle.sweep.proofs.sweep.Statement.{statement}
