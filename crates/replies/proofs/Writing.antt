@@ -84,9 +84,6 @@ module _ {list old : List ℕ} {count : ℕ} where
   writing-start = record { most = omega arith; place = refl; lines = refl; long = refl }
 
   module _ (safe : EntriesSafe list old count) {out : List ℕ} {at n : ℕ} (v : Writing list old out count at n) where
-    pub writing-inside : at ≤ length out
-    writing-inside = let r = safe .room in let m = v .most in let p = v .place in let l = v .long in omega arith
-
     module _ (h : n < count) {x : Entry} (ex : x ≡ entryIn list n) {w : Written} {left : List ℕ}
         (ew : w ≡ written (entryFits x) (entryLine x) (midOf at (length out - at) out)) (el : left ≡ leaves (entryFits x) (entryLine x) (midOf at (length out - at) out)) where
       abbrev text : List ℕ
