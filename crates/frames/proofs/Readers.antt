@@ -46,31 +46,31 @@ number-read kind size line old bytes at width n room left z h e =
     e ∙ number-same bytes (bytesIn line) at width same
 
 module _ (line : List ℕ) (n : ℕ) where
-  pub entry-refused : n ≡ kindNumber 16 10 line → (n ≡ 0 → ⊥) → record { number = n; entry = noEntry } ≡ readEntry line
+  pub entry-refused : n ≡ kindNumber 16 10 line → (n ≡ 0 → ⊥) → record { number = n; sequence = 0; detail = 0; entry = noEntry } ≡ readEntry line
   unfolding readEntry
   entry-refused e h = rw (← e) (rw (ne-eqb n 0 h))
 
-  pub done-refused : n ≡ kindNumber 17 20 line → (n ≡ 0 → ⊥) → record { number = n; done = noDone } ≡ readDone line
+  pub done-refused : n ≡ kindNumber 17 20 line → (n ≡ 0 → ⊥) → record { number = n; sequence = 0; detail = 0; done = noDone } ≡ readDone line
   unfolding readDone
   done-refused e h = rw (← e) (rw (ne-eqb n 0 h))
 
-  pub refused-refused : n ≡ kindNumber 31 6 line → (n ≡ 0 → ⊥) → record { number = n; refused = noRefused } ≡ readRefused line
+  pub refused-refused : n ≡ kindNumber 31 6 line → (n ≡ 0 → ⊥) → record { number = n; sequence = 0; detail = 0; refused = noRefused } ≡ readRefused line
   unfolding readRefused
   refused-refused e h = rw (← e) (rw (ne-eqb n 0 h))
 
 pub entry-good : (line : List ℕ) (a b c d w : ℕ) → kindNumber 16 10 line ≡ 0 → a ≡ numberAt (bytesIn line) 2 2 → b ≡ numberAt (bytesIn line) 4 2
     → c ≡ numberAt (bytesIn line) 6 2 → d ≡ numberAt (bytesIn line) 8 2 → w ≡ numberAt (bytesIn line) 10 2
-    → record { number = 0; entry = record { first = record { start = a; end = b }; second = record { start = c; end = d }; weight = w } } ≡ readEntry line
+    → record { number = 0; sequence = 0; detail = 0; entry = record { first = record { start = a; end = b }; second = record { start = c; end = d }; weight = w } } ≡ readEntry line
 unfolding readEntry entryIn
 entry-good line a b c d w z ea eb ec ed ew = rw z (rw (ea, eb, ec, ed, ew))
 
 pub done-good : (line : List ℕ) (l m w k : ℕ) → kindNumber 17 20 line ≡ 0 → l ≡ numberAt (bytesIn line) 2 4 → m ≡ numberAt (bytesIn line) 6 4
     → w ≡ numberAt (bytesIn line) 10 4 → k ≡ numberAt (bytesIn line) 14 8
-    → record { number = 0; done = record { listed = l; matches = m; widest = w; links = k } } ≡ readDone line
+    → record { number = 0; sequence = 0; detail = 0; done = record { listed = l; matches = m; widest = w; links = k } } ≡ readDone line
 unfolding readDone doneIn
 done-good line l m w k z el em ew ek = rw z (rw (el, em, ew, ek))
 
 pub refused-good : (line : List ℕ) (n s d : ℕ) → kindNumber 31 6 line ≡ 0 → n ≡ numberAt (bytesIn line) 2 1 → s ≡ numberAt (bytesIn line) 3 1
-    → d ≡ numberAt (bytesIn line) 4 4 → record { number = 0; refused = record { number = n; sequence = s; detail = d } } ≡ readRefused line
+    → d ≡ numberAt (bytesIn line) 4 4 → record { number = 0; sequence = 0; detail = 0; refused = record { number = n; sequence = s; detail = d } } ≡ readRefused line
 unfolding readRefused refusedIn
 refused-good line n s d z en es ed = rw z (rw (en, es, ed))

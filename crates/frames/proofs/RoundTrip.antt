@@ -142,7 +142,7 @@ entry-frame x h =
     rw (a, b, c, d, e)
 
 -- what the writer writes, the reader reads back
-pub entry-round-trip : (x : Entry) → entryFits x ≡ true → readEntry (entryLine x) ≡ record { number = 0; entry = x }
+pub entry-round-trip : (x : Entry) → entryFits x ≡ true → readEntry (entryLine x) ≡ record { number = 0; sequence = 0; detail = 0; entry = x }
 unfolding readEntry entryLine entryPayload numberBytes
 entry-round-trip x h =
     let b = entry-bytes x in
@@ -192,7 +192,7 @@ done-frame x h l =
     rw (a, b, c, d)
 
 -- what the writer writes, the reader reads back
-pub done-round-trip : (x : Done) → doneFits x ≡ true → x .links < 2 ^ 64 → readDone (doneLine x) ≡ record { number = 0; done = x }
+pub done-round-trip : (x : Done) → doneFits x ≡ true → x .links < 2 ^ 64 → readDone (doneLine x) ≡ record { number = 0; sequence = 0; detail = 0; done = x }
 unfolding readDone doneLine donePayload numberBytes
 done-round-trip x h l =
     let b = done-bytes x in
@@ -241,7 +241,7 @@ refused-frame x h =
     rw (a, b, c)
 
 -- what the writer writes, the reader reads back
-pub refused-round-trip : (x : Refused) → refusedFits x ≡ true → readRefused (refusedLine x) ≡ record { number = 0; refused = x }
+pub refused-round-trip : (x : Refused) → refusedFits x ≡ true → readRefused (refusedLine x) ≡ record { number = 0; sequence = 0; detail = 0; refused = x }
 unfolding readRefused refusedLine refusedPayload numberBytes
 refused-round-trip x h =
     let b = refused-bytes x in

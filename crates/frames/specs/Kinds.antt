@@ -1,4 +1,5 @@
--- Document 01, "Frames": the table of kinds, and when "a value does not fit its field". Assumes nothing.
+-- Document 01, "Frames": the table of kinds, which is in hexadecimal (10 is 16, 11 is 17 and 1F is 31), and when "a value does not fit its field".
+-- Assumes nothing.
 use mathlib.Core.Bool.{Bool, _&&_}
 use mathlib.Core.List.{List, [], _++_}
 use Prim.Native.Nat.{ℕ, _+_}

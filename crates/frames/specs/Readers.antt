@@ -50,12 +50,12 @@ noRefused = record { number = 0; sequence = 0; detail = 0 }
 
 unfoldable pub readEntry : List ℕ → EntryRead
 unfolding kindNumber bytesIn entryIn noEntry
-readEntry line = let n = kindNumber 16 10 line in record { number = n; entry = cond (eqb n 0) (entryIn (bytesIn line)) noEntry }
+readEntry line = let n = kindNumber 16 10 line in record { number = n; sequence = 0; detail = 0; entry = cond (eqb n 0) (entryIn (bytesIn line)) noEntry }
 
 unfoldable pub readDone : List ℕ → DoneRead
 unfolding kindNumber bytesIn doneIn noDone
-readDone line = let n = kindNumber 17 20 line in record { number = n; done = cond (eqb n 0) (doneIn (bytesIn line)) noDone }
+readDone line = let n = kindNumber 17 20 line in record { number = n; sequence = 0; detail = 0; done = cond (eqb n 0) (doneIn (bytesIn line)) noDone }
 
 unfoldable pub readRefused : List ℕ → RefusedRead
 unfolding kindNumber bytesIn refusedIn noRefused
-readRefused line = let n = kindNumber 31 6 line in record { number = n; refused = cond (eqb n 0) (refusedIn (bytesIn line)) noRefused }
+readRefused line = let n = kindNumber 31 6 line in record { number = n; sequence = 0; detail = 0; refused = cond (eqb n 0) (refusedIn (bytesIn line)) noRefused }

@@ -2,8 +2,10 @@
 use lines::Written;
 use rules::Settings;
 ghost use mathlib.Core.Path.{_≡_};
-ghost use mathlib.Core.Bool.{true};
-ghost use Rattle.lines.specs.Writing.{written, leaves};
+ghost use mathlib.Core.Bool.{true, _&&_};
+ghost use lib.Dec.{leb};
+ghost use lib.ListN.{length};
+ghost use Rattle.lines.specs.Writing.{lineOf, written, leaves};
 ghost use Rattle.payloads.specs.Pieces.{pieceFits};
 ghost use Rattle.frames.specs.Kinds.{jobPayload, jobFits, jobLine, pieceLine, endLine, entryPayload, entryFits, entryLine, donePayload, doneFits, doneLine, refusedPayload, refusedFits, refusedLine};
 ghost use Rattle.frames.specs.Readers.{readEntry, readDone, readRefused};
@@ -37,20 +39,40 @@ pub struct Refused {
     pub detail: u64,
 }
 
-// What a reader answers: 0 and the values, or the number of what is wrong with the line and all values 0.
+// What a reader answers: 0 and the values, or the number of what is wrong with the line and all values 0. Its sequence and detail are always 0.
 pub struct EntryRead {
     pub number: u64,
+    pub sequence: u64,
+    pub detail: u64,
     pub entry: Entry,
 }
 
 pub struct DoneRead {
     pub number: u64,
+    pub sequence: u64,
+    pub detail: u64,
     pub done: Done,
 }
 
 pub struct RefusedRead {
     pub number: u64,
+    pub sequence: u64,
+    pub detail: u64,
     pub refused: Refused,
+}
+
+// The line of a kind, where its values fit.
+fn write_fitting(fits: bool, kind: u8, payload: &[u8], out: &mut [u8]) -> Written
+    ensures { λ r. ⌜ r ≡ written (fits && leb (length (now (payload .entry))) 64) (lineOf kind (now (payload .entry))) (now (out .entry)) ⌝ }
+    ensures { λ _. ⌜ now (out .exit) ≡ leaves (fits && leb (length (now (payload .entry))) 64) (lineOf kind (now (payload .entry))) (now (out .entry)) ⌝ }
+{
+    if fits {
+        return lines::write_line(kind, payload, out);
+    }
+    Written {
+        number: 27,
+        length: 0,
+    }
 }
 
 fn job_fits(job: Settings) -> bool
@@ -74,14 +96,8 @@ pub fn write_job(job: Settings, out: &mut [u8]) -> Written
     ensures { λ r. ⌜ r ≡ written (jobFits job) (jobLine job) (now (out .entry)) ⌝ }
     ensures { λ _. ⌜ now (out .exit) ≡ leaves (jobFits job) (jobLine job) (now (out .entry)) ⌝ }
 {
-    if job_fits(job) {
-        let payload = job_payload(job);
-        return lines::write_line(1, &payload, out);
-    }
-    Written {
-        number: 27,
-        length: 0,
-    }
+    let payload = job_payload(job);
+    write_fitting(job_fits(job), 0x01, &payload, out)
 }
 
 fn entry_fits(entry: Entry) -> bool
@@ -110,14 +126,8 @@ pub fn write_entry(entry: Entry, out: &mut [u8]) -> Written
     ensures { λ r. ⌜ r ≡ written (entryFits entry) (entryLine entry) (now (out .entry)) ⌝ }
     ensures { λ _. ⌜ now (out .exit) ≡ leaves (entryFits entry) (entryLine entry) (now (out .entry)) ⌝ }
 {
-    if entry_fits(entry) {
-        let payload = entry_payload(entry);
-        return lines::write_line(16, &payload, out);
-    }
-    Written {
-        number: 27,
-        length: 0,
-    }
+    let payload = entry_payload(entry);
+    write_fitting(entry_fits(entry), 0x10, &payload, out)
 }
 
 // The link total fits as it is: eight bytes hold it.
@@ -142,14 +152,8 @@ pub fn write_done(done: Done, out: &mut [u8]) -> Written
     ensures { λ r. ⌜ r ≡ written (doneFits done) (doneLine done) (now (out .entry)) ⌝ }
     ensures { λ _. ⌜ now (out .exit) ≡ leaves (doneFits done) (doneLine done) (now (out .entry)) ⌝ }
 {
-    if done_fits(done) {
-        let payload = done_payload(done);
-        return lines::write_line(17, &payload, out);
-    }
-    Written {
-        number: 27,
-        length: 0,
-    }
+    let payload = done_payload(done);
+    write_fitting(done_fits(done), 0x11, &payload, out)
 }
 
 fn refused_fits(refused: Refused) -> bool
@@ -172,14 +176,8 @@ pub fn write_refused(refused: Refused, out: &mut [u8]) -> Written
     ensures { λ r. ⌜ r ≡ written (refusedFits refused) (refusedLine refused) (now (out .entry)) ⌝ }
     ensures { λ _. ⌜ now (out .exit) ≡ leaves (refusedFits refused) (refusedLine refused) (now (out .entry)) ⌝ }
 {
-    if refused_fits(refused) {
-        let payload = refused_payload(refused);
-        return lines::write_line(31, &payload, out);
-    }
-    Written {
-        number: 27,
-        length: 0,
-    }
+    let payload = refused_payload(refused);
+    write_fitting(refused_fits(refused), 0x1F, &payload, out)
 }
 
 // An end fits wherever its line does.
@@ -188,7 +186,7 @@ pub fn write_end(out: &mut [u8]) -> Written
     ensures { λ _. ⌜ now (out .exit) ≡ leaves true endLine (now (out .entry)) ⌝ }
 {
     let payload = [0u8; 0];
-    lines::write_line(4, &payload, out)
+    lines::write_line(0x04, &payload, out)
 }
 
 fn piece_fits(sequence: u8, codes: &[u8]) -> bool
@@ -218,11 +216,13 @@ pub fn read_entry(line: &[u8]) -> EntryRead
     ensures { λ r. ⌜ r ≡ readEntry (now (line .entry)) ⌝ }
 {
     let mut bytes = [0u8; 67];
-    let number = payloads::read_kind(line, 16, 10, &mut bytes);
+    let number = payloads::read_kind(line, 0x10, 10, &mut bytes);
     if number != 0 {
         let none = Span { start: 0, end: 0 };
         return EntryRead {
             number,
+            sequence: 0,
+            detail: 0,
             entry: Entry {
                 first: none,
                 second: none,
@@ -232,6 +232,8 @@ pub fn read_entry(line: &[u8]) -> EntryRead
     }
     EntryRead {
         number: 0,
+        sequence: 0,
+        detail: 0,
         entry: Entry {
             first: Span {
                 start: payloads::number_at(&bytes, 2, 2),
@@ -250,10 +252,12 @@ pub fn read_done(line: &[u8]) -> DoneRead
     ensures { λ r. ⌜ r ≡ readDone (now (line .entry)) ⌝ }
 {
     let mut bytes = [0u8; 67];
-    let number = payloads::read_kind(line, 17, 20, &mut bytes);
+    let number = payloads::read_kind(line, 0x11, 20, &mut bytes);
     if number != 0 {
         return DoneRead {
             number,
+            sequence: 0,
+            detail: 0,
             done: Done {
                 listed: 0,
                 matches: 0,
@@ -264,6 +268,8 @@ pub fn read_done(line: &[u8]) -> DoneRead
     }
     DoneRead {
         number: 0,
+        sequence: 0,
+        detail: 0,
         done: Done {
             listed: payloads::number_at(&bytes, 2, 4),
             matches: payloads::number_at(&bytes, 6, 4),
@@ -277,10 +283,12 @@ pub fn read_refused(line: &[u8]) -> RefusedRead
     ensures { λ r. ⌜ r ≡ readRefused (now (line .entry)) ⌝ }
 {
     let mut bytes = [0u8; 67];
-    let number = payloads::read_kind(line, 31, 6, &mut bytes);
+    let number = payloads::read_kind(line, 0x1F, 6, &mut bytes);
     if number != 0 {
         return RefusedRead {
             number,
+            sequence: 0,
+            detail: 0,
             refused: Refused {
                 number: 0,
                 sequence: 0,
@@ -290,6 +298,8 @@ pub fn read_refused(line: &[u8]) -> RefusedRead
     }
     RefusedRead {
         number: 0,
+        sequence: 0,
+        detail: 0,
         refused: Refused {
             number: payloads::number_at(&bytes, 2, 1),
             sequence: payloads::number_at(&bytes, 3, 1),

@@ -95,7 +95,7 @@ fn one_less(x: u32) -> u32
     if x == 0 { 0 } else { x - 1 }
 }
 
-// The sum of the counts of columns lo to hi - 1. They lie side by side and no turn waits for another: a machine adds several at a time.
+// The sum of the counts of columns lo to hi - 1. They lie side by side and no turn waits for another, so that several can be added at a time.
 fn sum(counts: &[u32; 16385], lo: usize, hi: usize) -> u64
     requires { ⌜ hi ≤ 16385 ⌝ }
     ensures { λ r. ⌜ r ≡ sumFrom (now (counts .entry)) lo (hi - lo) ⌝ }

@@ -1,26 +1,25 @@
--- A value that does not fit refuses; else the line's writer answers. Assumes nothing.
-use mathlib.Core.Path.{sym, _∙_}
+-- The line is that of the payload, which is never too long for one. Assumes nothing.
 use Prim.Native.Nat.{_≤_}
 use native.Mathlib.Omega.{arith}
 use lib.ListN.{length}
 use Rattle.payloads.specs.Numbers.{numberBytes}
 use Rattle.frames.specs.Kinds.{donePayload, doneLine}
-use Rattle.frames.proofs.Writers.{not-fitting, fitting}
+use Rattle.frames.proofs.Writers.{short-payload}
 use borrow.Author.Needs.{needs}
 use Rattle.frames.proofs.write_done.Statement.{statement}
 use Rattle.frames.proofs.write_done.Tie as tie
 
-done-fits-requires : tie.Need-done-fits-requires
-done-fits-requires c κs = search needs
-
 done-payload-requires : tie.Need-done-payload-requires
 done-payload-requires c κs = search needs
 
-slice-aggregate-write-line : tie.Need-slice-aggregate-write-line
-slice-aggregate-write-line c = search needs
+done-fits-requires : tie.Need-done-fits-requires
+done-fits-requires c κs = search needs
 
-write-line-requires : tie.Need-write-line-requires
-write-line-requires c κs = search needs
+slice-aggregate-write-fitting : tie.Need-slice-aggregate-write-fitting
+slice-aggregate-write-fitting c = search needs
+
+write-fitting-requires : tie.Need-write-fitting-requires
+write-fitting-requires c κs = search needs
 
 same-length : tie.Need-same-length
 same-length c = search needs
@@ -29,25 +28,19 @@ returns : tie.Need-returns
 unfolding doneLine donePayload numberBytes
 returns c =
     let w = c .before .before in
-    let p = w .before .before .before in
-    let f = p .before .before in
-    let a = f .before .before .args in
+    let f = w .before .before .before in
+    let p = f .before in
+    let a = p .before .before .args in
     let s : length (donePayload (a .done)) ≤ 64 = omega arith in
-    fitting 17 (donePayload (a .done)) _ (a .out .now) _ _ _ (sym (f .done-fits .ensures) ∙ p .before .if1 .taken) (p .done-payload .ensures) s (w .write-line .ensures .0) (w .write-line .ensures .1)
-
-returns-2 : tie.Need-returns-2
-returns-2 c =
-    let f = c .before in
-    not-fitting _ (f .before .before .args .out .now) _ (sym (f .done-fits .ensures) ∙ c .if1 .left)
+    short-payload 17 (donePayload (a .done)) _ (a .out .now) _ _ _ _ (f .done-fits .ensures) (p .done-payload .ensures) s (w .write-fitting .ensures .0) (w .write-fitting .ensures .1)
 
 pub write-done-spec : {M : Type 1} → statement M
 write-done-spec =
     tie.close
     (tie.spec
-    done-fits-requires
     done-payload-requires
-    slice-aggregate-write-line
-    write-line-requires
+    done-fits-requires
+    slice-aggregate-write-fitting
+    write-fitting-requires
     same-length
-    returns
-    returns-2)
+    returns)
