@@ -40,10 +40,10 @@ pub record Reading (input before-first before-second : List ℕ) (s : State) (at
   pub second-rest : drop (s .second) second ≡ drop (s .second) before-second
   pub ahead : inputOf input ≡ readLines (progressOf s first second) line (linesOf (drop at input))
 
-pub reading-start : (input first second : List ℕ) (none : Settings) → none ≡ noSettings
+pub reading-start : {input first second : List ℕ} {none : Settings} → none ≡ noSettings
     → Reading input first second (record { number = 0; turn = 0; settings = none; first = 0; second = 0 }) 0 0 first second
 unfolding inputOf nothingYet progressOf
-reading-start input first second none e = record {
+reading-start e = record {
   within = omega arith;
   lines = omega arith;
   first-long = refl;
@@ -55,7 +55,7 @@ reading-start input first second none e = record {
   ahead = rw e;
 }
 
-module _ (input before-first before-second : List ℕ) (s : State) (at line : ℕ) (first second : List ℕ) (first-room : 16384 ≤ length before-first)
+module _ {input before-first before-second : List ℕ} {s : State} {at line : ℕ} {first second : List ℕ} (first-room : 16384 ≤ length before-first)
     (second-room : 16384 ≤ length before-second) (r : Reading input before-first before-second s at line first second) where
   pub safe : StateSafe s first second
   safe = record {
@@ -77,10 +77,10 @@ module _ (input before-first before-second : List ℕ) (s : State) (at line : �
     here-second : second ≡ inFront (take (s .second) second) before-second
     here-second = front-is (s .second) second before-second (omega (arith, r .second-most, r .second-long)) (r .second-rest)
 
-    pub no-end : (a : InputRead) → (s .turn ≡ 3 → ⊥) → a ≡ refusedInput 24 (line + 1)
+    pub no-end : {a : InputRead} → (s .turn ≡ 3 → ⊥) → a ≡ refusedInput 24 (line + 1)
         → (a ≡ inputOf input .answer) × ((first ≡ inFront (inputOf input .first) before-first) × (second ≡ inFront (inputOf input .second) before-second))
     unfolding finished stopped progressOf
-    no-end a n q = rw (end-of, ne-eqb (s .turn) 3 n) (q ∙ rw add-one, (here-first, here-second))
+    no-end n q = rw (end-of, ne-eqb (s .turn) 3 n) (q ∙ rw add-one, (here-first, here-second))
 
     pub has-end : s .turn ≡ 3
         → (record { number = 0; line = 0; settings = s .settings; first = s .first; second = s .second } ≡ inputOf input .answer)
@@ -92,8 +92,8 @@ module _ (input before-first before-second : List ℕ) (s : State) (at line : �
         rw (end-of, eq-eqb (s .turn) 3 t) (rw (f, g), (here-first, here-second))
 
   -- one line more
-  module _ (more : at < length input) (end : ℕ) (ends : end ≡ at + lineSize (drop at input)) (inside : end ≤ length input) (t : State)
-      (first-left second-left : List ℕ) (first-same : length first-left ≡ length first) (second-same : length second-left ≡ length second)
+  module _ (more : at < length input) {end : ℕ} (ends : end ≡ at + lineSize (drop at input)) (inside : end ≤ length input) {t : State}
+      {first-left second-left : List ℕ} (first-same : length first-left ≡ length first) (second-same : length second-left ≡ length second)
       (taken : LineTaken (take (end - at) (drop at input)) s first second t first-left second-left) where
     abbrev here : Progress
     here = progressOf s first second
@@ -145,10 +145,10 @@ module _ (input before-first before-second : List ℕ) (s : State) (at line : �
         let p : progressOf t first-left second-left ≡ here = taken .progress ∙ rw w in
         turn-of ∙ rw (w, m, p)
 
-    pub stops : (a : InputRead) → (t .number ≡ 0 → ⊥) → a ≡ refusedInput (t .number) (line + 1)
+    pub stops : {a : InputRead} → (t .number ≡ 0 → ⊥) → a ≡ refusedInput (t .number) (line + 1)
         → (a ≡ inputOf input .answer) × ((first-left ≡ inFront (inputOf input .first) before-first) × (second-left ≡ inFront (inputOf input .second) before-second))
     unfolding stopped progressOf
-    stops a n q =
+    stops n q =
         let f = front-is (t .first) first-left before-first (omega (arith, taken .first-most, r .first-long)) rest-first in
         let g = front-is (t .second) second-left before-second (omega (arith, taken .second-most, r .second-long)) rest-second in
         rw (stopped-at n) (q ∙ rw add-one, (f, g))

@@ -124,7 +124,7 @@ far-begins room latest ring tail near column from b j i all h r =
         let w = n .left in
         omega arith
 
-module _ (room latest : List ℕ) (ring : Ring) (tail near column from b j : ℕ) where
+module _ {room latest : List ℕ} {ring : Ring} {tail near column from b j : ℕ} where
   walked-near : j - b ≤ column → Walked room latest ring tail near column from b j j column tail near
   walked-near h = record { passed = λ i all r. record { walk = near-begins room latest ring tail near column from b j i all h r; met = met-none refl; above = omega arith } }
 
@@ -132,16 +132,16 @@ module _ (room latest : List ℕ) (ring : Ring) (tail near column from b j : ℕ
   walked-far h = record { passed = λ i all r. record { walk = far-begins room latest ring tail near column from b j i all h r; met = met-none refl; above = omega arith } }
 
   -- so the walk begins
-  pub walked-begin : (best stop : ℕ) → best ≡ cond (leb (j - b) column) near 0 → stop ≡ cond (leb (j - b) column) column (j - b - 1)
+  pub walked-begin : {best stop : ℕ} → best ≡ cond (leb (j - b) column) near 0 → stop ≡ cond (leb (j - b) column) column (j - b - 1)
       → (j - b ≤ stop + 1) × Walked room latest ring tail near column from b j j stop tail best
-  walked-begin best stop eb es = rw (eb, es) (go (tested (leb (j - b) column)))
+  walked-begin eb es = rw (eb, es) (go (tested (leb (j - b) column)))
     where
       go : T (leb (j - b) column) ⊎ (¬ T (leb (j - b) column))
           → (j - b ≤ cond (leb (j - b) column) column (j - b - 1) + 1) × Walked room latest ring tail near column from b j j (cond (leb (j - b) column) column (j - b - 1)) tail (cond (leb (j - b) column) near 0)
       go (inl t) = let h : j - b ≤ column = simp tests at t in rw (le-leb (j - b) column h) (omega arith, walked-near h)
       go (inr t) = let h = simp tests at t in let g : column < j - b = omega arith in rw (lt-leb (j - b) column g) (omega arith, walked-far g)
 
-  module _ (q stop top best : ℕ) (v : Walked room latest ring tail near column from b j q stop top best) (h : stop < q) where
+  module _ {q stop top best : ℕ} (v : Walked room latest ring tail near column from b j q stop top best) (h : stop < q) where
     module _ (i : ℕ) (all : List Record) (g : Ready b i j all room latest ring tail near column from) where
       abbrev c : Cell
       c = cell i j
@@ -246,8 +246,8 @@ module _ (room latest : List ℕ) (ring : Ring) (tail near column from b j : ℕ
       pub walked-stop : from < getD latest q 0 → Found room latest ring tail near column from b j r
       walked-stop l = record { picked = λ i all g. ended i all g l }
 
-  pub walked-end : (q stop top best : ℕ) → Walked room latest ring tail near column from b j q stop top best → q ≤ stop → Found room latest ring tail near column from b j best
-  walked-end q stop top best v h =
+  pub walked-end : {q stop top best : ℕ} → Walked room latest ring tail near column from b j q stop top best → q ≤ stop → Found room latest ring tail near column from b j best
+  walked-end {q} {stop} {top} {best} v h =
       record {
         picked = λ i all g.
             best-is b (cell i j) all (g .known .single) (numbered room ring best)

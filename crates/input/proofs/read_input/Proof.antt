@@ -18,7 +18,7 @@ no-settings-requires : tie.Need-no-settings-requires Inv-loop μ-loop
 no-settings-requires c κs = search needs
 
 loop-holds : tie.Need-loop-holds Inv-loop μ-loop
-loop-holds c = reading-start _ _ _ _ (c .no-settings .ensures)
+loop-holds c = reading-start (c .no-settings .ensures)
 
 line-end-requires : tie.Need-line-end-requires Inv-loop μ-loop
 line-end-requires c κs = search needs
@@ -39,7 +39,7 @@ take-line-requires : tie.Need-take-line-requires Inv-loop μ-loop
 take-line-requires c κs =
     let l = c .before .before .before .before .before in
     let s = l .before .before .before .before .before in
-    safe _ _ _ _ _ _ _ _ (s .pre .0) (s .pre .1) (l .loop .inv)
+    safe (s .pre .0) (s .pre .1) (l .loop .inv)
 
 refuse-requires : tie.Need-refuse-requires Inv-loop μ-loop
 refuse-requires c κs = search needs
@@ -60,9 +60,8 @@ returns c =
     let e = p .before .before .before .before in
     let l = e .before .before in
     let s = l .before .before .before .before .before in
-    let v = l .loop in
-    stops _ _ _ (v .s) (v .at) (v .line) (v .first) (v .second) (s .pre .0) (s .pre .1) (v .inv)
-    (e .before .loop-test .taken) (e .line-end .result) (e .line-end .ensures .0) (e .line-end .ensures .1) (p .take-line .result) _ _ (p .take-line .kept .1 .1 .0) (p .take-line .kept .1 .1 .1 .0) (p .take-line .ensures) _ (c .before .if1 .taken) (c .refuse .ensures)
+    stops (s .pre .0) (s .pre .1) (l .loop .inv)
+    (e .before .loop-test .taken) (e .line-end .ensures .0) (e .line-end .ensures .1) (p .take-line .kept .1 .1 .0) (p .take-line .kept .1 .1 .1 .0) (p .take-line .ensures) (c .before .if1 .taken) (c .refuse .ensures)
 
 loop-less : tie.Need-loop-less Inv-loop μ-loop
 loop-less c =
@@ -70,9 +69,8 @@ loop-less c =
     let e = p .before .before .before .before in
     let l = e .before .before in
     let s = l .before .before .before .before .before in
-    let v = l .loop in
-    let g = goes-on _ _ _ (v .s) (v .at) (v .line) (v .first) (v .second) (s .pre .0) (s .pre .1) (v .inv)
-    (e .before .loop-test .taken) (e .line-end .result) (e .line-end .ensures .0) (e .line-end .ensures .1) (p .take-line .result) _ _ (p .take-line .kept .1 .1 .0) (p .take-line .kept .1 .1 .1 .0) (p .take-line .ensures) in omega (arith, e .line-end .ensures .1)
+    let g = goes-on (s .pre .0) (s .pre .1) (l .loop .inv)
+    (e .before .loop-test .taken) (e .line-end .ensures .0) (e .line-end .ensures .1) (p .take-line .kept .1 .1 .0) (p .take-line .kept .1 .1 .1 .0) (p .take-line .ensures) in omega (arith, e .line-end .ensures .1)
 
 loop-again : tie.Need-loop-again Inv-loop μ-loop
 loop-again c =
@@ -80,9 +78,8 @@ loop-again c =
     let e = p .before .before .before .before in
     let l = e .before .before in
     let s = l .before .before .before .before .before in
-    let v = l .loop in
-    reading-next _ _ _ (v .s) (v .at) (v .line) (v .first) (v .second) (s .pre .0) (s .pre .1) (v .inv)
-    (e .before .loop-test .taken) (e .line-end .result) (e .line-end .ensures .0) (e .line-end .ensures .1) (p .take-line .result) _ _ (p .take-line .kept .1 .1 .0) (p .take-line .kept .1 .1 .1 .0) (p .take-line .ensures) (c .if1 .left)
+    reading-next (s .pre .0) (s .pre .1) (l .loop .inv)
+    (e .before .loop-test .taken) (e .line-end .ensures .0) (e .line-end .ensures .1) (p .take-line .kept .1 .1 .0) (p .take-line .kept .1 .1 .1 .0) (p .take-line .ensures) (c .if1 .left)
 
 add-refuse : tie.Need-add-refuse Inv-loop μ-loop
 add-refuse c = let l = c .before .before .before in omega (arith, l .loop .inv .lines, l .loop .inv .within)
@@ -101,8 +98,7 @@ returns-2 c =
     let e = c .before .before .before in
     let l = e .before in
     let s = l .before .before .before .before .before in
-    let v = l .loop in
-    no-end _ _ _ (v .s) (v .at) (v .line) (v .first) (v .second) (s .pre .0) (s .pre .1) (v .inv) (e .loop-test .left) _ (c .before .if2 .taken) (c .refuse2 .ensures)
+    no-end (s .pre .0) (s .pre .1) (l .loop .inv) (e .loop-test .left) (c .before .if2 .taken) (c .refuse2 .ensures)
 
 same-length-5 : tie.Need-same-length-5 Inv-loop μ-loop
 same-length-5 c = c .before .before .before .before .loop .inv .first-long
@@ -115,8 +111,7 @@ returns-3 c =
     let e = c .before .before .before in
     let l = e .before in
     let s = l .before .before .before .before .before in
-    let v = l .loop in
-    has-end _ _ _ (v .s) (v .at) (v .line) (v .first) (v .second) (s .pre .0) (s .pre .1) (v .inv) (e .loop-test .left) (c .before .if2 .left)
+    has-end (s .pre .0) (s .pre .1) (l .loop .inv) (e .loop-test .left) (c .before .if2 .left)
 
 pub read-input-spec : {M : Type 1} → statement M
 read-input-spec =

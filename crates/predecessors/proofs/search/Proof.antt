@@ -11,7 +11,7 @@ use Rattle.predecessors.proofs.search.Statement.{statement}
 use Rattle.predecessors.proofs.search.Tie as tie
 
 abbrev Inv-loop : tie.InvT-loop
-Inv-loop room latest ring tail near column from b j low stop best₀ top₀ q₀ best top q = (q ≤ j) × (j - b ≤ stop + 1) × Walked room latest ring tail near column from b j q stop top best
+Inv-loop room latest ring tail near column from b j low stop best₀ top₀ q₀ best top q = (q ≤ j) × ((j - b ≤ stop + 1) × Walked room latest ring tail near column from b j q stop top best)
 
 abbrev μ-loop : tie.MeasureT-loop
 μ-loop room latest ring tail near column from b j low stop best₀ top₀ q₀ best top q = q
@@ -27,12 +27,12 @@ begin-requires c κs = search needs
 
 loop-holds : tie.Need-loop-holds Inv-loop μ-loop
 loop-holds c =
-    let a = c .before .before .before .before .before .args in
-    let (l, w) =
-    walked-begin (a .room .now) (a .latest .now) (a .ring) (a .tail) (a .near) (a .column) (a .from) (a .b) (a .j) (c .begin .result) (c .before .bottom .result)
-    (c .begin .ensures ∙ ap (λ (t : ℕ). cond (leb t (a .column)) (a .near) 0) (c .before .before .window-start .ensures))
-    (c .before .bottom .ensures ∙ ap (λ (t : ℕ). cond (leb t (a .column)) (a .column) (t - 1)) (c .before .before .window-start .ensures)) in
-    (omega arith, l, w)
+    let a = c .before .before .before .before .before .args in (
+      omega arith,
+      walked-begin
+          (c .begin .ensures ∙ ap (λ (t : ℕ). cond (leb t (a .column)) (a .near) 0) (c .before .before .window-start .ensures))
+          (c .before .bottom .ensures ∙ ap (λ (t : ℕ). cond (leb t (a .column)) (a .column) (t - 1)) (c .before .before .window-start .ensures)),
+    )
 
 mul-s : tie.Need-mul-s Inv-loop μ-loop
 mul-s c = omega (arith, c .before .before .before .before .before .before .before .pre .inside)
@@ -54,10 +54,8 @@ weigh-requires c κs =
 returns : tie.Need-returns Inv-loop μ-loop
 returns c =
     let l = c .before .before .before .before .before in
-    let a = l .before .before .before .before .before .before .args in
-    let v = l .loop in
     let w = c .before .weigh in
-    walked-stop (a .room .now) (a .latest .now) (a .ring) (a .tail) (a .near) (a .column) (a .from) (a .b) (a .j) (v .q) (l .before .before .bottom .result) (v .top) (v .best) (v .inv .2) (omega arith) (omega arith) (omega arith) (w .result)
+    walked-stop (l .loop .inv .1 .1) (omega arith) (omega arith) (omega arith) (w .result)
     (c .before .before .if1 .taken) (w .ensures) (c .if2 .taken)
 
 loop-less : tie.Need-loop-less Inv-loop μ-loop
@@ -66,34 +64,20 @@ loop-less c = omega arith
 loop-again : tie.Need-loop-again Inv-loop μ-loop
 loop-again c =
     let l = c .before .before .before .before .before in
-    let a = l .before .before .before .before .before .before .args in
-    let v = l .loop in
-    let w = c .before .weigh in (
-      omega arith,
-      omega arith,
-      walked-take (a .room .now) (a .latest .now) (a .ring) (a .tail) (a .near) (a .column) (a .from) (a .b) (a .j) (v .q) (l .before .before .bottom .result) (v .top) (v .best) (v .inv .2) (omega arith) (omega arith) (omega arith) (w .result)
-          (c .before .before .if1 .taken) (w .ensures),
-    )
+    let w = c .before .weigh in
+    (omega arith, (omega arith, walked-take (l .loop .inv .1 .1) (omega arith) (omega arith) (omega arith) (w .result) (c .before .before .if1 .taken) (w .ensures)))
 
 loop-less-2 : tie.Need-loop-less-2 Inv-loop μ-loop
 loop-less-2 c = omega arith
 
 loop-again-2 : tie.Need-loop-again-2 Inv-loop μ-loop
 loop-again-2 c =
-    let l = c .before .before .before in
-    let a = l .before .before .before .before .before .before .args in
-    let v = l .loop in (
-      omega arith,
-      omega arith,
-      walked-skip (a .room .now) (a .latest .now) (a .ring) (a .tail) (a .near) (a .column) (a .from) (a .b) (a .j) (v .q) (l .before .before .bottom .result) (v .top) (v .best) (v .inv .2) (omega arith) (c .if1 .left),
-    )
+    (omega arith, (omega arith, walked-skip (c .before .before .before .loop .inv .1 .1) (omega arith) (c .if1 .left)))
 
 returns-2 : tie.Need-returns-2 Inv-loop μ-loop
 returns-2 c =
     let l = c .before in
-    let a = l .before .before .before .before .before .before .args in
-    let v = l .loop in
-    walked-end (a .room .now) (a .latest .now) (a .ring) (a .tail) (a .near) (a .column) (a .from) (a .b) (a .j) (v .q) (l .before .before .bottom .result) (v .top) (v .best) (v .inv .2) (omega arith)
+    walked-end (l .loop .inv .1 .1) (omega arith)
 
 pub search-spec : {M : Type 1} → statement M
 search-spec =
