@@ -4,17 +4,19 @@
  * Link with target/native/libhornbeamlet.a (tools/staticlib writes it). The
  * library needs memset and nothing else. It keeps no state, allocates nothing
  * and calls nobody back, so any number of threads may use it at once. A call
- * takes up to about 1.2 MB of stack.
+ * takes up to about 1.4 MB of stack.
  *
  * SETTINGS
  *
- *   k   1 to 31       the k-mer length: k letters in a row make a k-mer
- *   b   1 to 1,024    the gap bound: how far apart two matches of a chain may
- *                     lie, in rows and in columns
- *   a   1 to 1,024    the repeat cap: a k-mer that occurs more often than this
- *                     in both sequences together is not used
- *   m   0 to 16,384   the least span in bases: a stretch shorter than this in
- *                     either sequence is not listed
+ *   k        1 to 31       the k-mer length: k letters in a row make a k-mer
+ *   b        1 to 1,024    the gap bound: how far apart two matches of a chain
+ *                          may lie, in rows and in columns
+ *   a        1 to 1,024    the repeat cap: a k-mer that occurs more often than
+ *                          this in both sequences together is not used
+ *   m        0 to 16,384   the least span in bases: a stretch shorter than
+ *                          this in either sequence is not listed
+ *   strand   0 or 1        0 the forward strand, 1 both strands; the stopped
+ *                          sweep names one strand, and 1 is the reverse
  *
  * SEQUENCES
  *
@@ -22,6 +24,14 @@
  * it. The letters are A B C D G H K M N R S T V W Y, capitals only. K-mers are
  * made of A, C, G and T alone, so the others break them. Places count from 1:
  * row i is a place of the first sequence, column j one of the second.
+ *
+ * STRANDS
+ *
+ * On the forward strand the second sequence is taken as it stands, on the
+ * reverse strand turned round: from its last letter to its first, each as its
+ * complement (A and T change places, C and G, R and Y, K and M, B and V, D and
+ * H; S, W and N stay). Each strand is a sweep with columns of its own, and its
+ * k-mers are counted in the first sequence and in the second as it is taken.
  *
  * MATCHES AND CHAINS
  *
@@ -42,8 +52,11 @@
  *   work room   eight numbers a record: row, column, weight, start row,
  *               start column and three zeros. hornbeamlet_need tells how many
  *               records are needed.
- *   list room   five numbers an entry: first and last place in the first
- *               sequence, first and last place in the second, weight.
+ *   list room   six numbers an entry: first and last place in the first
+ *               sequence, first and last place in the second, weight, and the
+ *               strand, 0 forward or 1 reverse. Reverse entries are turned
+ *               back: their places in the second sequence are those of the
+ *               sequence as it stands, the smaller first.
  *
  * What the rooms hold before a call does not matter to it.
  *
@@ -59,6 +72,7 @@
  *   [5] W          the most matches in any b + 1 consecutive rows
  *   [6] links      pairs of a match and one of its left extensions
  *
+ * Over both strands W is the larger of the two, and the other three are sums.
  * After a refusal the last four are 0.
  *
  * REFUSALS
@@ -70,6 +84,7 @@
  *   2       b is outside its range            0         0          untouched
  *   3       a is outside its range            0         0          untouched
  *   4       m is outside its range            0         0          untouched
+ *   9       the strand is not 0 or 1          0         0          untouched
  *   5       a sequence is too long,           1 or 2    0          untouched
  *           the first looked at first
  *   6       a letter is not one of the        1 or 2    its first  untouched
@@ -91,12 +106,14 @@
  * EXAMPLE
  *
  *   uint64_t answer[HORNBEAMLET_ANSWER];
- *   uint64_t records = hornbeamlet_need(11, 300, 20, 100, s, s_len, t, t_len);
+ *   uint64_t records = hornbeamlet_need(11, 300, 20, 100, HORNBEAMLET_BOTH,
+ *                                       s, s_len, t, t_len);
  *   if (records >= HORNBEAMLET_REFUSED)
  *       return refused(records - HORNBEAMLET_REFUSED);
  *   size_t work_len = HORNBEAMLET_RECORD * records;
  *   uint32_t *work = malloc((work_len + 1) * sizeof *work);
- *   hornbeamlet_compare(11, 300, 20, 100, s, s_len, t, t_len,
+ *   hornbeamlet_compare(11, 300, 20, 100, HORNBEAMLET_BOTH,
+ *                       s, s_len, t, t_len,
  *                       work, work_len, list, list_len, answer);
  *
  * (One number more than needed, since malloc(0) may give a null pointer.)
@@ -114,29 +131,39 @@ extern "C" {
 /* Numbers of work room in one record. */
 #define HORNBEAMLET_RECORD 8
 /* Numbers of list room in one entry. */
-#define HORNBEAMLET_ENTRY 5
+#define HORNBEAMLET_ENTRY 6
 /* Numbers in the answer. */
 #define HORNBEAMLET_ANSWER 7
 /* What hornbeamlet_need adds to the number of a refusal. */
 #define HORNBEAMLET_REFUSED UINT64_C(4294967296)
+/* The strand for hornbeamlet_need and hornbeamlet_compare: forward or both. */
+#define HORNBEAMLET_FORWARD 0
+#define HORNBEAMLET_BOTH 1
+/* The strand for hornbeamlet_stopped: HORNBEAMLET_FORWARD or this one. */
+#define HORNBEAMLET_REVERSE 1
 
 /*
- * How much work room the job needs. The reply is W, the number of records, so
- * lend HORNBEAMLET_RECORD * W numbers; or HORNBEAMLET_REFUSED plus the number
- * of the refusal, 1 to 6. A W is always below HORNBEAMLET_REFUSED.
+ * How much work room the job needs. The reply is W, the number of records,
+ * over both strands the larger W, so lend HORNBEAMLET_RECORD * W numbers; or
+ * HORNBEAMLET_REFUSED plus the number of the refusal, 1 to 6 or 9. A W is
+ * always below HORNBEAMLET_REFUSED.
  */
 uint64_t hornbeamlet_need(uint32_t k, uint32_t b, uint32_t a, uint32_t m,
+                          uint32_t strand,
                           const uint8_t *first, size_t first_len,
                           const uint8_t *second, size_t second_len);
 
 /*
  * Compares the two sequences. When done, the list room holds the entries by
  * last place in the first sequence, then last place in the second, and zeros
- * after them; the work room holds zeros. If the list room was too short the
- * answer is refusal 8 with the number of entries: lend HORNBEAMLET_ENTRY times
- * that many numbers and call again.
+ * after them; the work room holds zeros. Forward entries come before reverse
+ * ones, which are ordered as in their sweep, before they are turned back. If
+ * the list room was too short the answer is refusal 8 with the number of
+ * entries of all strands compared: lend HORNBEAMLET_ENTRY times that many
+ * numbers and call again.
  */
 void hornbeamlet_compare(uint32_t k, uint32_t b, uint32_t a, uint32_t m,
+                         uint32_t strand,
                          const uint8_t *first, size_t first_len,
                          const uint8_t *second, size_t second_len,
                          uint32_t *work, size_t work_len,
@@ -144,12 +171,16 @@ void hornbeamlet_compare(uint32_t k, uint32_t b, uint32_t a, uint32_t m,
                          uint64_t answer[HORNBEAMLET_ANSWER]);
 
 /*
- * Sweeps the rows up to the given one and stops. When done, the work room
- * holds the records of all matches in that row and the b rows before it, by
- * row and then column, and zeros after them. Row 0 leaves only zeros. M, W and
- * links are those of the whole job; m is checked and not used.
+ * Sweeps the rows of one strand up to the given one and stops. When done, the
+ * work room holds the records of all matches in that row and the b rows before
+ * it, by row and then column, and zeros after them. Row 0 leaves only zeros.
+ * On the reverse strand columns stay those of the second sequence turned
+ * round. M, W and links are those of the whole strand, and W is what it needs;
+ * what hornbeamlet_need replies for both strands is enough for either. m is
+ * checked and not used.
  */
 void hornbeamlet_stopped(uint32_t k, uint32_t b, uint32_t a, uint32_t m,
+                         uint32_t strand,
                          const uint8_t *first, size_t first_len,
                          const uint8_t *second, size_t second_len,
                          uint32_t *work, size_t work_len,

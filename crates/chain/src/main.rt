@@ -3,7 +3,7 @@
 fn main() {
     let mut input = [0u8; 300000];
     let read = io::read_full(0, &mut input);
-    let mut output = [0u8; 10847];
+    let mut output = [0u8; 9038];
     let written = exchange::answer(&input[..read], &mut output);
     io::write_all(1, &output[..written]);
 }

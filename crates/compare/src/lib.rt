@@ -4,7 +4,7 @@ use rules::Settings;
 ghost use mathlib.Core.Path.{_≡_};
 ghost use Rattle.rules.specs.Answers.{compared, stopped as stoppedBy, replied};
 
-// Lists the intervals that two sequences share. Checks 1 to 8, the first that applies.
+// Lists the intervals that two sequences share, on the forward strand or on both. Checks 1 to 8, with 9 after 4: the first that applies.
 pub fn compare(
     settings: Settings,
     first: &[u8],
@@ -20,15 +20,33 @@ pub fn compare(
     if refused.number != 0 {
         return refused;
     }
-    // columns of rows and of columns: places, and no records
+    // columns of rows and of columns on each strand: places, and no records
     let mut firsts = [0u32; 16384];
     let mut nexts = [0u32; 16384];
     prepare::match_up(settings, first, second, &mut firsts, &mut nexts);
     let rows = kmers::places(first.len(), casts::wide(settings.k));
-    jobs::compare_matches(&firsts[..rows], &nexts, settings, work, list)
+    let mut reverse_firsts = [0u32; 16384];
+    let mut reverse_nexts = [0u32; 16384];
+    let reverse_rows = prepare::match_up_second(
+        settings,
+        first,
+        second,
+        &mut reverse_firsts,
+        &mut reverse_nexts,
+    );
+    jobs::compare_matches(
+        &firsts[..rows],
+        &nexts,
+        &reverse_firsts[..reverse_rows],
+        &reverse_nexts,
+        settings,
+        second.len() as u32,
+        work,
+        list,
+    )
 }
 
-// Sweeps up to a row and leaves the run of that row in work room. Checks 1 to 7, then 19; m is checked and not used.
+// Sweeps one strand up to a row and leaves the run of that row in work room. Checks 1 to 7, with 9 after 4, then 19; m is checked and not used.
 pub fn stopped(
     settings: Settings,
     first: &[u8],
@@ -46,12 +64,12 @@ pub fn stopped(
     // as above
     let mut firsts = [0u32; 16384];
     let mut nexts = [0u32; 16384];
-    prepare::match_up(settings, first, second, &mut firsts, &mut nexts);
+    prepare::match_up_strand(settings, first, second, &mut firsts, &mut nexts);
     let rows = kmers::places(first.len(), casts::wide(settings.k));
     jobs::stop_matches(&firsts[..rows], &nexts, settings, work, casts::wide(row))
 }
 
-// How many records of work room a job needs: W, or 4,294,967,296 plus the refusal number 1 to 6.
+// How many records of work room a job needs: W, the larger of both strands, or 4,294,967,296 plus the refusal number 1 to 6 or 9.
 pub fn need(settings: Settings, first: &[u8], second: &[u8]) -> u64
     ensures { λ r. ⌜ r ≡ replied settings (now (first .entry)) (now (second .entry)) ⌝ }
 {
@@ -65,6 +83,21 @@ pub fn need(settings: Settings, first: &[u8], second: &[u8]) -> u64
     let mut nexts = [0u32; 16384];
     prepare::match_up(settings, first, second, &mut firsts, &mut nexts);
     let rows = kmers::places(first.len(), casts::wide(settings.k));
-    let counts = tally::count_matches(&firsts[..rows], &nexts, casts::wide(settings.b));
+    let mut reverse_firsts = [0u32; 16384];
+    let mut reverse_nexts = [0u32; 16384];
+    let reverse_rows = prepare::match_up_second(
+        settings,
+        first,
+        second,
+        &mut reverse_firsts,
+        &mut reverse_nexts,
+    );
+    let counts = strands::count_strands(
+        &firsts[..rows],
+        &nexts,
+        &reverse_firsts[..reverse_rows],
+        &reverse_nexts,
+        casts::wide(settings.b),
+    );
     counts.widest as u64
 }

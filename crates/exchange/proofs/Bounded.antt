@@ -16,7 +16,7 @@ use Rattle.frames.specs.Kinds.{refusedFits, refusedLine}
 use Rattle.payloads.specs.Pieces.{codesIn}
 use Rattle.input.specs.declared.InputRead.{InputRead}
 use Rattle.input.specs.Lines.{addTo, linesOf}
-use Rattle.input.specs.Grammar.{Progress, Outcome, nothingYet, knownKind, inTurn, frameNumber, payloadIn, isPiece, sizeNumber, pieceNumber, payloadNumber, lineNumber, after, refusedInput, stopped, finished, readLines, inputOf}
+use Rattle.input.specs.Grammar.{Progress, Outcome, nothingYet, knownKind, inTurn, frameNumber, payloadIn, isPiece, jobSize, sizeNumber, pieceNumber, payloadNumber, lineNumber, after, refusedInput, stopped, finished, readLines, inputOf}
 use Rattle.input.specs.States.{inFront}
 use Rattle.input.proofs.Cutting.{cut}
 use Rattle.replies.specs.Output.{jobOutput, inFront as outputFront}
@@ -48,20 +48,20 @@ piece-small payload count =
     let fits = leb (count + length (codesIn payload)) 16384 in
     either (isPiece payload) (cond fits 0 26) 25 (either fits 0 26 (omega arith) (omega arith)) (omega arith)
 
-size-small : (right size : ℕ) → sizeNumber right size ≤ 26
+size-small : (right : Bool) → sizeNumber right ≤ 26
 unfolding sizeNumber
-size-small right size = either (eqb size right) 0 25 (omega arith) (omega arith)
+size-small right = either right 0 25 (omega arith) (omega arith)
 
 payload-small : (p : Progress) (kind : ℕ) (payload : List ℕ) → payloadNumber p kind payload ≤ 26
 unfolding payloadNumber
 payload-small p kind payload =
-    let job = sizeNumber 7 (length payload) in
+    let job = sizeNumber (jobSize (length payload)) in
     let first = pieceNumber payload (length (p .first)) in
     let second = pieceNumber payload (length (p .second)) in
-    let end = sizeNumber 0 (length payload) in
-    either (eqb kind 1) job (cond (eqb kind 2) first (cond (eqb kind 3) second end)) (size-small 7 (length payload))
+    let end = sizeNumber (eqb (length payload) 0) in
+    either (eqb kind 1) job (cond (eqb kind 2) first (cond (eqb kind 3) second end)) (size-small (jobSize (length payload)))
     (either (eqb kind 2) first (cond (eqb kind 3) second end) (piece-small payload (length (p .first)))
-    (either (eqb kind 3) second end (piece-small payload (length (p .second))) (size-small 0 (length payload))))
+    (either (eqb kind 3) second end (piece-small payload (length (p .second))) (size-small (eqb (length payload) 0))))
 
 turn-small : (turn : ℕ) (f : Frame) → f .number ≤ 26 → frameNumber turn f ≤ 26
 unfolding frameNumber
@@ -168,15 +168,15 @@ not-taken : (n : ℕ) (x y : List ℕ) → (n ≡ 0 → ⊥) → cond (eqb n 0) 
 not-taken n x y h = rw (ne-eqb n 0 h)
 
 module _ (input output left : List ℕ) (n : ℕ) where
-  pub short-output : length output < 10847 → (0 ≡ outputLength input output) × (output ≡ outputLeft input output)
+  pub short-output : length output < 9038 → (0 ≡ outputLength input output) × (output ≡ outputLeft input output)
   unfolding outputLength outputLeft
-  short-output h = (rw (lt-leb 10847 (length output) h), rw (lt-leb 10847 (length output) h))
+  short-output h = (rw (lt-leb 9038 (length output) h), rw (lt-leb 9038 (length output) h))
 
-  pub long-output : (lines : List ℕ) → 10847 ≤ length output → lines ≡ outputOf input → n ≡ length lines → left ≡ outputFront lines output
+  pub long-output : (lines : List ℕ) → 9038 ≤ length output → lines ≡ outputOf input → n ≡ length lines → left ≡ outputFront lines output
       → (n ≡ outputLength input output) × (left ≡ outputLeft input output)
   unfolding outputLength outputLeft
   long-output lines h e a b =
-      (rw (le-leb 10847 (length output) h) (a ∙ ap length e), rw (le-leb 10847 (length output) h) (b ∙ ap (λ (l : List ℕ). outputFront l output) e))
+      (rw (le-leb 9038 (length output) h) (a ∙ ap length e), rw (le-leb 9038 (length output) h) (b ∙ ap (λ (l : List ℕ). outputFront l output) e))
 
   pub refused-lines : (r : InputRead) → r ≡ inputOf input .answer → (r .number ≡ 0 → ⊥) → refusedLine (inputRefusal r) ≡ outputOf input
   unfolding outputOf
@@ -198,7 +198,7 @@ front-inside text output left n e f = omega (arith, ap length f, length-append t
 -- what was written lies within the slice
 pub written-inside : (input output left : List ℕ) (n : ℕ) → n ≡ outputLength input output → left ≡ outputLeft input output → n ≤ length left
 unfolding outputLength outputLeft
-written-inside input output left n e f = go (leb 10847 (length output)) e f
+written-inside input output left n e f = go (leb 9038 (length output)) e f
   where
     go : (t : Bool) → n ≡ cond t (length (outputOf input)) 0 → left ≡ cond t (outputFront (outputOf input) output) output → n ≤ length left
     go true a b = front-inside (outputOf input) output left n a b

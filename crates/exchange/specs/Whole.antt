@@ -20,11 +20,11 @@ outputOf input =
     let r = inputOf input in
     cond (eqb (r .answer .number) 0) (jobOutput (r .answer .settings) (r .first) (r .second)) (refusedLine (inputRefusal (r .answer)))
 
--- a slice that holds every output: 400 entries of 27 bytes and a done frame of 47. A shorter one is left as it is, and 0 is answered
+-- a slice that holds every output: 333 entries of 27 bytes and a done frame of 47. A shorter one is left as it is, and 0 is answered
 unfoldable pub outputLength : List ℕ → List ℕ → ℕ
 unfolding outputOf
-outputLength input output = cond (leb 10847 (length output)) (length (outputOf input)) 0
+outputLength input output = cond (leb 9038 (length output)) (length (outputOf input)) 0
 
 unfoldable pub outputLeft : List ℕ → List ℕ → List ℕ
 unfolding outputOf inFront
-outputLeft input output = cond (leb 10847 (length output)) (inFront (outputOf input) output) output
+outputLeft input output = cond (leb 9038 (length output)) (inFront (outputOf input) output) output

@@ -1,3 +1,4 @@
 pub mod Writers
 pub mod Readers
+pub mod Jobs
 pub mod RoundTrip

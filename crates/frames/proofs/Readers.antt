@@ -14,7 +14,7 @@ use Rattle.lines.proofs.Decoding.{byte-at}
 use Rattle.lines.proofs.Frames.{count-most, frame-read}
 use Rattle.payloads.specs.Numbers.{numberAt}
 use Rattle.payloads.specs.Lines.{kindNumber}
-use Rattle.frames.specs.Readers.{entryIn, doneIn, refusedIn, noEntry, noDone, noRefused, readEntry, readDone, readRefused}
+use Rattle.frames.specs.Readers.{entryIn, doneIn, refusedIn, noEntry, noDone, noRefused, readEntryOf, readDone, readRefused}
 use Rattle.payloads.proofs.Numbers.{number-same}
 
 -- what is known of a line that has its kind
@@ -45,10 +45,11 @@ number-read kind size line old bytes at width n room left z h e =
     let same : (i : ℕ) → i < at + width → getD bytes i 0 ≡ getD (bytesIn line) i 0 = λ i l. rw s (byte-at line old i (omega (arith, r .long)) (omega arith)) in
     e ∙ number-same bytes (bytesIn line) at width same
 
-module _ (line : List ℕ) (n : ℕ) where
-  pub entry-refused : n ≡ kindNumber 16 10 line → (n ≡ 0 → ⊥) → record { number = n; sequence = 0; detail = 0; entry = noEntry } ≡ readEntry line
-  unfolding readEntry
-  entry-refused e h = rw (← e) (rw (ne-eqb n 0 h))
+module _ (line : List ℕ) {n : ℕ} where
+  pub entry-refused : (kind : ℕ) → n ≡ kindNumber kind 10 line → (n ≡ 0 → ⊥)
+      → record { number = n; sequence = 0; detail = 0; entry = noEntry } ≡ readEntryOf kind line
+  unfolding readEntryOf
+  entry-refused kind e h = rw (← e) (rw (ne-eqb n 0 h))
 
   pub done-refused : n ≡ kindNumber 17 20 line → (n ≡ 0 → ⊥) → record { number = n; sequence = 0; detail = 0; done = noDone } ≡ readDone line
   unfolding readDone
@@ -58,19 +59,19 @@ module _ (line : List ℕ) (n : ℕ) where
   unfolding readRefused
   refused-refused e h = rw (← e) (rw (ne-eqb n 0 h))
 
-pub entry-good : (line : List ℕ) (a b c d w : ℕ) → kindNumber 16 10 line ≡ 0 → a ≡ numberAt (bytesIn line) 2 2 → b ≡ numberAt (bytesIn line) 4 2
-    → c ≡ numberAt (bytesIn line) 6 2 → d ≡ numberAt (bytesIn line) 8 2 → w ≡ numberAt (bytesIn line) 10 2
-    → record { number = 0; sequence = 0; detail = 0; entry = record { first = record { start = a; end = b }; second = record { start = c; end = d }; weight = w } } ≡ readEntry line
-unfolding readEntry entryIn
-entry-good line a b c d w z ea eb ec ed ew = rw z (rw (ea, eb, ec, ed, ew))
+pub entry-good : (kind : ℕ) (line : List ℕ) {a b c d w : ℕ} → kindNumber kind 10 line ≡ 0 → a ≡ numberAt (bytesIn line) 2 2
+    → b ≡ numberAt (bytesIn line) 4 2 → c ≡ numberAt (bytesIn line) 6 2 → d ≡ numberAt (bytesIn line) 8 2 → w ≡ numberAt (bytesIn line) 10 2
+    → record { number = 0; sequence = 0; detail = 0; entry = record { first = record { start = a; end = b }; second = record { start = c; end = d }; weight = w } } ≡ readEntryOf kind line
+unfolding readEntryOf entryIn
+entry-good kind line z ea eb ec ed ew = rw z (rw (ea, eb, ec, ed, ew))
 
-pub done-good : (line : List ℕ) (l m w k : ℕ) → kindNumber 17 20 line ≡ 0 → l ≡ numberAt (bytesIn line) 2 4 → m ≡ numberAt (bytesIn line) 6 4
+pub done-good : (line : List ℕ) {l m w k : ℕ} → kindNumber 17 20 line ≡ 0 → l ≡ numberAt (bytesIn line) 2 4 → m ≡ numberAt (bytesIn line) 6 4
     → w ≡ numberAt (bytesIn line) 10 4 → k ≡ numberAt (bytesIn line) 14 8
     → record { number = 0; sequence = 0; detail = 0; done = record { listed = l; matches = m; widest = w; links = k } } ≡ readDone line
 unfolding readDone doneIn
-done-good line l m w k z el em ew ek = rw z (rw (el, em, ew, ek))
+done-good line z el em ew ek = rw z (rw (el, em, ew, ek))
 
-pub refused-good : (line : List ℕ) (n s d : ℕ) → kindNumber 31 6 line ≡ 0 → n ≡ numberAt (bytesIn line) 2 1 → s ≡ numberAt (bytesIn line) 3 1
+pub refused-good : (line : List ℕ) {n s d : ℕ} → kindNumber 31 6 line ≡ 0 → n ≡ numberAt (bytesIn line) 2 1 → s ≡ numberAt (bytesIn line) 3 1
     → d ≡ numberAt (bytesIn line) 4 4 → record { number = 0; sequence = 0; detail = 0; refused = record { number = n; sequence = s; detail = d } } ≡ readRefused line
 unfolding readRefused refusedIn
-refused-good line n s d z en es ed = rw z (rw (en, es, ed))
+refused-good line z en es ed = rw z (rw (en, es, ed))

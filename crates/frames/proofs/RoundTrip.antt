@@ -1,7 +1,7 @@
 -- What is written is read back: a line gives its payload, and each number of it stands where it was put. So no two values have the same line. Assumes nothing.
 use mathlib.Core.Path.{_≡_, refl, sym, ap, _∙_}
 use mathlib.Core.Bool.{true, _&&_}
-use mathlib.Core.List.{List}
+use mathlib.Core.List.{List, [], _∷_, _++_}
 use Prim.Native.Nat.{ℕ, _+_, _^_, _<_, _≤_}
 use native.Mathlib.Omega.{arith}
 use lib.Dec.{ltb, lit<}
@@ -9,7 +9,7 @@ use lib.ListN.{length, take, drop}
 use borrow.Author.Tests.{ltb-true, eq-eqb}
 use Rattle.rules.specs.declared.Settings.{Settings}
 use Rattle.lines.specs.Digits.{bytesIn}
-use Rattle.lines.specs.Writing.{frameOf, lineOf}
+use Rattle.lines.specs.Writing.{checkOf, frameOf, lineOf}
 use Rattle.lines.proofs.Decoding.{and-left, and-right}
 use Rattle.lines.proofs.RoundTrip.{Bytes, bytes-append, line-bytes, line-read, line-unique}
 use Rattle.frames.specs.declared.Entry.{Entry}
@@ -20,11 +20,12 @@ use Rattle.frames.specs.declared.DoneRead.{DoneRead}
 use Rattle.frames.specs.declared.RefusedRead.{RefusedRead}
 use Rattle.payloads.specs.Numbers.{numberBytes, numberAt}
 use Rattle.payloads.specs.Pieces.{codeBytes, codesIn, pieceFits}
-use Rattle.frames.specs.Kinds.{jobPayload, jobFits, jobLine, pieceLine, entryPayload, entryFits, entryLine, donePayload, doneFits, doneLine, refusedPayload, refusedFits, refusedLine}
+use Rattle.frames.specs.Kinds.{jobNumbers, jobPayload, jobFits, jobLine, pieceLine, entryPayload, entryFits, entryLine, reverseLine, donePayload, doneFits, doneLine, refusedPayload, refusedFits, refusedLine}
 use Rattle.payloads.specs.Lines.{kindNumber}
-use Rattle.frames.specs.Readers.{jobIn, entryIn, doneIn, refusedIn, readEntry, readDone, readRefused}
+use Rattle.frames.specs.Readers.{strandIn, jobIn, entryIn, doneIn, refusedIn, readEntryOf, readEntry, readReverse, readDone, readRefused}
 use Rattle.payloads.proofs.Numbers.{number-bytes, number-back}
 use Rattle.payloads.proofs.Pieces.{piece-parts, packed-length, packed-are-bytes, codes-back}
+use Rattle.frames.proofs.Jobs.{jobBytes, JobForm, forward, stranded, job-form, job-few, job-are-bytes}
 
 -- a line has the kind and the size that it was written with
 pub kind-written : (kind size : ℕ) (payload : List ℕ) → kind < 256 → length payload ≤ 64 → Bytes payload → length payload ≡ size
@@ -39,6 +40,7 @@ record JobFits (x : Settings) : Type 0 where
   b-fits : x .b < 65536
   a-fits : x .a < 65536
   m-fits : x .m < 65536
+  strand-fits : x .strand < 256
 
 job-parts : (x : Settings) → jobFits x ≡ true → JobFits x
 unfolding jobFits
@@ -47,36 +49,47 @@ job-parts x h =
     let b = ltb (x .b) 65536 in
     let a = ltb (x .a) 65536 in
     let m = ltb (x .m) 65536 in
-    let kba = and-left (k && b && a) m h in
+    let s = ltb (x .strand) 256 in
+    let kbam = and-left (k && b && a && m) s h in
+    let kba = and-left (k && b && a) m kbam in
     let kb = and-left (k && b) a kba in
     record {
       k-fits = ltb-true (x .k) 256 (and-left k b kb);
       b-fits = ltb-true (x .b) 65536 (and-right k b kb);
       a-fits = ltb-true (x .a) 65536 (and-right (k && b) a kba);
-      m-fits = ltb-true (x .m) 65536 (and-right (k && b && a) m h);
+      m-fits = ltb-true (x .m) 65536 (and-right (k && b && a) m kbam);
+      strand-fits = ltb-true (x .strand) 256 (and-right (k && b && a && m) s h);
     }
 
-pub job-bytes : (x : Settings) → Bytes (jobPayload x)
-unfolding jobPayload
-job-bytes x =
-    bytes-append (bytes-append (bytes-append (number-bytes 1 (x .k)) (number-bytes 2 (x .b))) (number-bytes 2 (x .a))) (number-bytes 2 (x .m))
-
-pub job-frame : (x : Settings) → jobFits x ≡ true → jobIn (frameOf 1 (jobPayload x)) ≡ x
-unfolding jobIn frameOf jobPayload numberBytes
-job-frame x h =
-    let f = frameOf 1 (jobPayload x) in
-    let p = job-parts x h in
+-- the first four numbers stand where they do whatever comes behind them, and the strand is as the size says
+numbers-back : (x : Settings) (size : ℕ) (rest : List ℕ) → JobFits x → strandIn size (1 ∷ size ∷ (jobNumbers x ++ rest)) ≡ x .strand
+    → jobIn size (1 ∷ size ∷ (jobNumbers x ++ rest)) ≡ x
+unfolding jobIn jobNumbers numberBytes
+numbers-back x size rest p s =
+    let f : List ℕ = 1 ∷ size ∷ (jobNumbers x ++ rest) in
     let k : numberAt f 2 1 ≡ x .k = number-back (take 2 f) (drop 3 f) 1 (x .k) (p .k-fits) in
     let b : numberAt f 3 2 ≡ x .b = number-back (take 3 f) (drop 5 f) 2 (x .b) (p .b-fits) in
     let a : numberAt f 5 2 ≡ x .a = number-back (take 5 f) (drop 7 f) 2 (x .a) (p .a-fits) in
     let m : numberAt f 7 2 ≡ x .m = number-back (take 7 f) (drop 9 f) 2 (x .m) (p .m-fits) in
-    rw (k, b, a, m)
+    rw (k, b, a, m, s)
+
+-- a job of either size gives its settings back
+pub job-frame : (x : Settings) → jobFits x ≡ true → jobIn (length (jobPayload x)) (frameOf 1 (jobPayload x)) ≡ x
+unfolding frameOf jobNumbers numberBytes strandIn
+job-frame x h = go (job-form x)
+  where
+    go : JobForm x → jobIn (length (jobPayload x)) (frameOf 1 (jobPayload x)) ≡ x
+    go (forward z e) = rw e (numbers-back x 7 (checkOf (1 ∷ 7 ∷ jobNumbers x) ∷ []) (job-parts x h) (sym z))
+    go (stranded n e) =
+        let bs : List ℕ = 1 ∷ 8 ∷ jobBytes x in
+        let s = number-back (take 9 bs) (checkOf bs ∷ []) 1 (x .strand) (job-parts x h .strand-fits) in
+        rw e (numbers-back x 8 (numberBytes 1 (x .strand) ++ (checkOf bs ∷ [])) (job-parts x h) s)
 
 pub job-unique : (x y : Settings) → jobFits x ≡ true → jobFits y ≡ true → jobLine x ≡ jobLine y → x ≡ y
-unfolding jobLine jobPayload numberBytes
+unfolding jobLine
 job-unique x y h g e =
-    let p : jobPayload x ≡ jobPayload y = line-unique 1 (jobPayload x) 1 (jobPayload y) (lit< tt) (lit< tt) (job-bytes x) (lit< tt) (lit< tt) (job-bytes y) e .1 in
-    sym (job-frame x h) ∙ ap (λ (l : List ℕ). jobIn (frameOf 1 l)) p ∙ job-frame y g
+    let p = line-unique 1 (jobPayload x) 1 (jobPayload y) (lit< tt) (job-few x) (job-are-bytes x) (lit< tt) (job-few y) (job-are-bytes y) e .1 in
+    sym (job-frame x h) ∙ ap (λ (l : List ℕ). jobIn (length l) (frameOf 1 l)) p ∙ job-frame y g
 
 -- ---- pieces
 
@@ -129,10 +142,10 @@ unfolding entryPayload
 entry-bytes x =
     bytes-append (bytes-append (bytes-append (bytes-append (number-bytes 2 (x .first .start)) (number-bytes 2 (x .first .end))) (number-bytes 2 (x .second .start))) (number-bytes 2 (x .second .end))) (number-bytes 2 (x .weight))
 
-entry-frame : (x : Entry) → entryFits x ≡ true → entryIn (frameOf 16 (entryPayload x)) ≡ x
+entry-frame : (kind : ℕ) (x : Entry) → entryFits x ≡ true → entryIn (frameOf kind (entryPayload x)) ≡ x
 unfolding entryIn frameOf entryPayload numberBytes
-entry-frame x h =
-    let f = frameOf 16 (entryPayload x) in
+entry-frame kind x h =
+    let f = frameOf kind (entryPayload x) in
     let p = entry-parts x h in
     let a : numberAt f 2 2 ≡ x .first .start = number-back (take 2 f) (drop 4 f) 2 (x .first .start) (p .first-start) in
     let b : numberAt f 4 2 ≡ x .first .end = number-back (take 4 f) (drop 6 f) 2 (x .first .end) (p .first-end) in
@@ -141,19 +154,44 @@ entry-frame x h =
     let e : numberAt f 10 2 ≡ x .weight = number-back (take 10 f) (drop 12 f) 2 (x .weight) (p .weight-fits) in
     rw (a, b, c, d, e)
 
--- what the writer writes, the reader reads back
-pub entry-round-trip : (x : Entry) → entryFits x ≡ true → readEntry (entryLine x) ≡ record { number = 0; sequence = 0; detail = 0; entry = x }
-unfolding readEntry entryLine entryPayload numberBytes
-entry-round-trip x h =
+-- what the writer of either strand's entries writes, its reader reads back
+kind-round-trip : (kind : ℕ) (x : Entry) → kind < 256 → entryFits x ≡ true
+    → readEntryOf kind (lineOf kind (entryPayload x)) ≡ record { number = 0; sequence = 0; detail = 0; entry = x }
+unfolding readEntryOf entryPayload numberBytes
+kind-round-trip kind x k h =
     let b = entry-bytes x in
-    let z = kind-written 16 10 (entryPayload x) (lit< tt) (lit< tt) b refl in
-    let e : entryIn (bytesIn (entryLine x)) ≡ x = ap entryIn (line-bytes 16 (entryPayload x) (lit< tt) (lit< tt) b) ∙ entry-frame x h in
+    let z = kind-written kind 10 (entryPayload x) k (lit< tt) b refl in
+    let e : entryIn (bytesIn (lineOf kind (entryPayload x))) ≡ x = ap entryIn (line-bytes kind (entryPayload x) k (lit< tt) b) ∙ entry-frame kind x h in
     rw z (rw e)
 
-pub entry-unique : (x y : Entry) → entryFits x ≡ true → entryFits y ≡ true → entryLine x ≡ entryLine y → x ≡ y
-entry-unique x y h g e =
-    let t = sym (entry-round-trip x h) ∙ ap readEntry e ∙ entry-round-trip y g in
+kind-unique : (kind : ℕ) (x y : Entry) → kind < 256 → entryFits x ≡ true → entryFits y ≡ true
+    → lineOf kind (entryPayload x) ≡ lineOf kind (entryPayload y) → x ≡ y
+kind-unique kind x y k h g e =
+    let t = sym (kind-round-trip kind x k h) ∙ ap (readEntryOf kind) e ∙ kind-round-trip kind y k g in
     ap (λ (r : EntryRead). r .entry) t
+
+pub entry-round-trip : (x : Entry) → entryFits x ≡ true → readEntry (entryLine x) ≡ record { number = 0; sequence = 0; detail = 0; entry = x }
+unfolding readEntry entryLine
+entry-round-trip x h = kind-round-trip 16 x (lit< tt) h
+
+pub entry-unique : (x y : Entry) → entryFits x ≡ true → entryFits y ≡ true → entryLine x ≡ entryLine y → x ≡ y
+unfolding entryLine
+entry-unique x y h g e = kind-unique 16 x y (lit< tt) h g e
+
+pub reverse-round-trip : (x : Entry) → entryFits x ≡ true → readReverse (reverseLine x) ≡ record { number = 0; sequence = 0; detail = 0; entry = x }
+unfolding readReverse reverseLine
+reverse-round-trip x h = kind-round-trip 18 x (lit< tt) h
+
+pub reverse-unique : (x y : Entry) → entryFits x ≡ true → entryFits y ≡ true → reverseLine x ≡ reverseLine y → x ≡ y
+unfolding reverseLine
+reverse-unique x y h g e = kind-unique 18 x y (lit< tt) h g e
+
+-- no line is a forward entry's and a reverse one's
+pub strands-apart : (x y : Entry) → entryLine x ≡ reverseLine y → ⊥
+unfolding entryLine reverseLine entryPayload numberBytes
+strands-apart x y e =
+    let u = line-unique 16 (entryPayload x) 18 (entryPayload y) (lit< tt) (lit< tt) (entry-bytes x) (lit< tt) (lit< tt) (entry-bytes y) e .0 in
+    omega arith
 
 -- ---- done
 

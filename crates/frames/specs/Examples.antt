@@ -1,19 +1,26 @@
--- Document 01, "Examples in the registry": the lines of P1 through `chain`, and of k 0. Assumes nothing.
+-- Document 01, "Examples in the registry": the lines of P1 through `chain`, and of k 0. CR 1: those that P1 over both strands has besides. Assumes
+-- nothing.
 use mathlib.Core.Path.{_≡_, refl}
+use mathlib.Core.Bool.{true, false}
 use mathlib.Core.List.{List, [], _∷_, _++_}
 use Prim.Native.Nat.{ℕ}
 use Rattle.rules.specs.Lists.{text}
 use Rattle.rules.specs.declared.Settings.{Settings}
-use Rattle.frames.specs.Kinds.{jobLine, pieceLine, endLine, entryLine, doneLine, refusedLine}
+use Rattle.frames.specs.declared.Entry.{Entry}
+use Rattle.frames.specs.Kinds.{jobFits, jobLine, pieceLine, endLine, entryLine, reverseLine, doneLine, refusedLine}
+use Rattle.frames.specs.Readers.{readEntry, readReverse}
 
 -- a quoted line with its line feed
 abbrev fed : List ℕ → List ℕ
 fed line = line ++ (10 ∷ [])
 
-abbrev settings : ℕ → Settings
-settings k = record { k = k; b = 2; a = 8; m = 0 }
+abbrev settings : ℕ → ℕ → Settings
+settings k strand = record { k = k; b = 2; a = 8; m = 0; strand = strand }
 
-pub job-line : jobLine (settings 2) ≡ fed (text "010702000200080000EC")
+abbrev entry : ℕ → Entry
+entry weight = record { first = record { start = 1; end = 5 }; second = record { start = 1; end = 5 }; weight = weight }
+
+pub job-line : jobLine (settings 2 0) ≡ fed (text "010702000200080000EC")
 unfolding jobLine text
 job-line = refl
 
@@ -30,7 +37,7 @@ pub end-line : endLine ≡ fed (text "0400FC")
 unfolding endLine text
 end-line = refl
 
-pub entry-line : entryLine (record { first = record { start = 1; end = 5 }; second = record { start = 1; end = 5 }; weight = 3 }) ≡ fed (text "100A00010005000100050003D7")
+pub entry-line : entryLine (entry 3) ≡ fed (text "100A00010005000100050003D7")
 unfolding entryLine text
 entry-line = refl
 
@@ -38,10 +45,35 @@ pub done-line : doneLine (record { listed = 1; matches = 3; widest = 2; links = 
 unfolding doneLine text
 done-line = refl
 
-pub job-line-k-0 : jobLine (settings 0) ≡ fed (text "010700000200080000EE")
+pub job-line-k-0 : jobLine (settings 0 0) ≡ fed (text "010700000200080000EE")
 unfolding jobLine text
 job-line-k-0 = refl
 
 pub refused-line : refusedLine (record { number = 1; sequence = 0; detail = 0 }) ≡ fed (text "1F06010000000000DA")
 unfolding refusedLine text
 refused-line = refl
+
+-- ---- CR 1
+
+pub job-line-both : jobLine (settings 2 1) ≡ fed (text "01080200020008000001EA")
+unfolding jobLine text
+job-line-both = refl
+
+-- 27: a strand above 255 does not fit its field
+pub strand-fits : jobFits (settings 2 255) ∷ jobFits (settings 2 256) ∷ [] ≡ true ∷ false ∷ []
+unfolding jobFits
+strand-fits = refl
+
+pub reverse-line : reverseLine (entry 4) ≡ fed (text "120A00010005000100050004D4")
+unfolding reverseLine text
+reverse-line = refl
+
+pub reverse-read : readReverse (fed (text "120A00010005000100050004D4")) ≡ record { number = 0; sequence = 0; detail = 0; entry = entry 4 }
+unfolding readReverse text
+reverse-read = refl
+
+-- 23: each reader takes the other's kind for another
+pub other-kinds : readReverse (fed (text "100A00010005000100050003D7")) .number ∷ readEntry (fed (text "120A00010005000100050004D4")) .number ∷ []
+    ≡ 23 ∷ 23 ∷ []
+unfolding readEntry readReverse text
+other-kinds = refl

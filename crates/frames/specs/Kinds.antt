@@ -1,9 +1,9 @@
--- Document 01, "Frames": the table of kinds, which is in hexadecimal (10 is 16, 11 is 17 and 1F is 31), and when "a value does not fit its field".
--- Assumes nothing.
-use mathlib.Core.Bool.{Bool, _&&_}
+-- Document 01, "Frames", with document 02's CR 1: the table of kinds, which is in hexadecimal (10 is 16, 11 is 17, 12 is 18 and 1F is 31), and when "a
+-- value does not fit its field". Assumes nothing.
+use mathlib.Core.Bool.{Bool, cond, _&&_}
 use mathlib.Core.List.{List, [], _++_}
 use Prim.Native.Nat.{ℕ, _+_}
-use lib.Dec.{ltb}
+use lib.Dec.{eqb, ltb}
 use Rattle.rules.specs.declared.Settings.{Settings}
 use Rattle.lines.specs.Writing.{lineOf}
 use Rattle.frames.specs.declared.Entry.{Entry}
@@ -13,12 +13,17 @@ use Rattle.payloads.specs.Numbers.{numberBytes}
 use Rattle.payloads.specs.Pieces.{codeBytes}
 
 -- "01 job | k (1 byte), b, a, m (2 each)"
-unfoldable pub jobPayload : Settings → List ℕ
+unfoldable pub jobNumbers : Settings → List ℕ
 unfolding numberBytes
-jobPayload c = numberBytes 1 (c .k) ++ numberBytes 2 (c .b) ++ numberBytes 2 (c .a) ++ numberBytes 2 (c .m)
+jobNumbers c = numberBytes 1 (c .k) ++ numberBytes 2 (c .b) ++ numberBytes 2 (c .a) ++ numberBytes 2 (c .m)
+
+-- CR 1: "a job of 8 payload bytes ends with the strand". One of 7 means strand 0, so that a forward job is written as it always was
+unfoldable pub jobPayload : Settings → List ℕ
+unfolding jobNumbers numberBytes
+jobPayload c = jobNumbers c ++ cond (eqb (c .strand) 0) [] (numberBytes 1 (c .strand))
 
 unfoldable pub jobFits : Settings → Bool
-jobFits c = ltb (c .k) 256 && ltb (c .b) 65536 && ltb (c .a) 65536 && ltb (c .m) 65536
+jobFits c = ltb (c .k) 256 && ltb (c .b) 65536 && ltb (c .a) 65536 && ltb (c .m) 65536 && ltb (c .strand) 256
 
 unfoldable pub jobLine : Settings → List ℕ
 unfolding lineOf jobPayload
@@ -34,7 +39,7 @@ unfoldable pub endLine : List ℕ
 unfolding lineOf
 endLine = lineOf 4 []
 
--- "10 entry | the five numbers, 2 bytes each"
+-- "10 entry | the five numbers, 2 bytes each", of either strand: the kind tells which
 unfoldable pub entryPayload : Entry → List ℕ
 unfolding numberBytes
 entryPayload x =
@@ -46,9 +51,15 @@ entryFits x =
     ltb (x .first .start) 65536 && ltb (x .first .end) 65536 && ltb (x .second .start) 65536 && ltb (x .second .end) 65536
     && ltb (x .weight) 65536
 
+-- CR 1: "kind 10 stays forward"
 unfoldable pub entryLine : Entry → List ℕ
 unfolding lineOf entryPayload
 entryLine x = lineOf 16 (entryPayload x)
+
+-- CR 1: "Frame kind 12 .. carries a reverse entry's five numbers"
+unfoldable pub reverseLine : Entry → List ℕ
+unfolding lineOf entryPayload
+reverseLine x = lineOf 18 (entryPayload x)
 
 -- "11 done | listed, M, W (4 each), link total (8)"
 unfoldable pub donePayload : Done → List ℕ

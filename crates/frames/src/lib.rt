@@ -1,14 +1,16 @@
-// The frames' kinds: a writer for each, and a reader of one line for entry, done and refused.
+// The frames' kinds: a writer for each, and a reader of one line for an entry of either strand, done and refused.
 use lines::Written;
 use rules::Settings;
 ghost use mathlib.Core.Path.{_≡_};
 ghost use mathlib.Core.Bool.{true, _&&_};
+ghost use mathlib.Core.List.{_++_};
 ghost use lib.Dec.{leb};
 ghost use lib.ListN.{length};
 ghost use Rattle.lines.specs.Writing.{lineOf, written, leaves};
+ghost use Rattle.payloads.specs.Numbers.{numberBytes};
 ghost use Rattle.payloads.specs.Pieces.{pieceFits};
-ghost use Rattle.frames.specs.Kinds.{jobPayload, jobFits, jobLine, pieceLine, endLine, entryPayload, entryFits, entryLine, donePayload, doneFits, doneLine, refusedPayload, refusedFits, refusedLine};
-ghost use Rattle.frames.specs.Readers.{readEntry, readDone, readRefused};
+ghost use Rattle.frames.specs.Kinds.{jobNumbers, jobPayload, jobFits, jobLine, pieceLine, endLine, entryPayload, entryFits, entryLine, reverseLine, donePayload, doneFits, doneLine, refusedPayload, refusedFits, refusedLine};
+ghost use Rattle.frames.specs.Readers.{readEntryOf, readEntry, readReverse, readDone, readRefused};
 
 // The places of a sequence that an entry spans.
 pub struct Span {
@@ -16,6 +18,7 @@ pub struct Span {
     pub end: u64,
 }
 
+// The five numbers of an entry. Its frame's kind tells its strand.
 pub struct Entry {
     pub first: Span,
     pub second: Span,
@@ -78,17 +81,29 @@ fn write_fitting(fits: bool, kind: u8, payload: &[u8], out: &mut [u8]) -> Writte
 fn job_fits(job: Settings) -> bool
     ensures { λ r. ⌜ r ≡ jobFits job ⌝ }
 {
-    (job.k < 256) & (job.b < 65536) & (job.a < 65536) & (job.m < 65536)
+    (job.k < 256) & (job.b < 65536) & (job.a < 65536) & (job.m < 65536) & (job.strand < 256)
 }
 
-fn job_payload(job: Settings) -> [u8; 7]
-    ensures { λ r. ⌜ r ≡ jobPayload job ⌝ }
+// A forward job leaves its strand out.
+fn job_size(job: Settings) -> usize
+    ensures { λ r. ⌜ r ≡ length (jobPayload job) ⌝ }
 {
-    let mut payload = [0u8; 7];
+    if job.strand == 0 {
+        return 7;
+    }
+    8
+}
+
+// A job's numbers, the strand last.
+fn job_bytes(job: Settings) -> [u8; 8]
+    ensures { λ r. ⌜ r ≡ jobNumbers job ++ numberBytes 1 (job .strand) ⌝ }
+{
+    let mut payload = [0u8; 8];
     payloads::put_number(&mut payload, 0, 1, job.k as u64);
     payloads::put_number(&mut payload, 1, 2, job.b as u64);
     payloads::put_number(&mut payload, 3, 2, job.a as u64);
     payloads::put_number(&mut payload, 5, 2, job.m as u64);
+    payloads::put_number(&mut payload, 7, 1, job.strand as u64);
     payload
 }
 
@@ -96,8 +111,9 @@ pub fn write_job(job: Settings, out: &mut [u8]) -> Written
     ensures { λ r. ⌜ r ≡ written (jobFits job) (jobLine job) (now (out .entry)) ⌝ }
     ensures { λ _. ⌜ now (out .exit) ≡ leaves (jobFits job) (jobLine job) (now (out .entry)) ⌝ }
 {
-    let payload = job_payload(job);
-    write_fitting(job_fits(job), 0x01, &payload, out)
+    let payload = job_bytes(job);
+    let size = job_size(job);
+    write_fitting(job_fits(job), 0x01, &payload[..size], out)
 }
 
 fn entry_fits(entry: Entry) -> bool
@@ -122,12 +138,28 @@ fn entry_payload(entry: Entry) -> [u8; 10]
     payload
 }
 
+// An entry of the kind that tells its strand.
+fn write_entry_of(kind: u8, entry: Entry, out: &mut [u8]) -> Written
+    ensures { λ r. ⌜ r ≡ written (entryFits entry) (lineOf kind (entryPayload entry)) (now (out .entry)) ⌝ }
+    ensures { λ _. ⌜ now (out .exit) ≡ leaves (entryFits entry) (lineOf kind (entryPayload entry)) (now (out .entry)) ⌝ }
+{
+    let payload = entry_payload(entry);
+    write_fitting(entry_fits(entry), kind, &payload, out)
+}
+
+// A forward entry.
 pub fn write_entry(entry: Entry, out: &mut [u8]) -> Written
     ensures { λ r. ⌜ r ≡ written (entryFits entry) (entryLine entry) (now (out .entry)) ⌝ }
     ensures { λ _. ⌜ now (out .exit) ≡ leaves (entryFits entry) (entryLine entry) (now (out .entry)) ⌝ }
 {
-    let payload = entry_payload(entry);
-    write_fitting(entry_fits(entry), 0x10, &payload, out)
+    write_entry_of(0x10, entry, out)
+}
+
+pub fn write_reverse_entry(entry: Entry, out: &mut [u8]) -> Written
+    ensures { λ r. ⌜ r ≡ written (entryFits entry) (reverseLine entry) (now (out .entry)) ⌝ }
+    ensures { λ _. ⌜ now (out .exit) ≡ leaves (entryFits entry) (reverseLine entry) (now (out .entry)) ⌝ }
+{
+    write_entry_of(0x12, entry, out)
 }
 
 // The link total fits as it is: eight bytes hold it.
@@ -212,11 +244,12 @@ pub fn write_piece(sequence: u8, codes: &[u8], out: &mut [u8]) -> Written
     }
 }
 
-pub fn read_entry(line: &[u8]) -> EntryRead
-    ensures { λ r. ⌜ r ≡ readEntry (now (line .entry)) ⌝ }
+// An entry of the kind that tells its strand.
+fn read_entry_of(kind: u8, line: &[u8]) -> EntryRead
+    ensures { λ r. ⌜ r ≡ readEntryOf kind (now (line .entry)) ⌝ }
 {
     let mut bytes = [0u8; 67];
-    let number = payloads::read_kind(line, 0x10, 10, &mut bytes);
+    let number = payloads::read_kind(line, kind, 10, &mut bytes);
     if number != 0 {
         let none = Span { start: 0, end: 0 };
         return EntryRead {
@@ -246,6 +279,19 @@ pub fn read_entry(line: &[u8]) -> EntryRead
             weight: payloads::number_at(&bytes, 10, 2),
         },
     }
+}
+
+// A forward entry.
+pub fn read_entry(line: &[u8]) -> EntryRead
+    ensures { λ r. ⌜ r ≡ readEntry (now (line .entry)) ⌝ }
+{
+    read_entry_of(0x10, line)
+}
+
+pub fn read_reverse_entry(line: &[u8]) -> EntryRead
+    ensures { λ r. ⌜ r ≡ readReverse (now (line .entry)) ⌝ }
+{
+    read_entry_of(0x12, line)
 }
 
 pub fn read_done(line: &[u8]) -> DoneRead

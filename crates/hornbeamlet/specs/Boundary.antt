@@ -4,8 +4,8 @@ use Prim.Native.Nat.{ℕ}
 use Rattle.rules.specs.declared.Settings.{Settings}
 use Rattle.rules.specs.declared.Answer.{Answer}
 
-abbrev pub settingsOf : ℕ → ℕ → ℕ → ℕ → Settings
-settingsOf k b a m = record { k = k; b = b; a = a; m = m }
+abbrev pub settingsOf : ℕ → ℕ → ℕ → ℕ → ℕ → Settings
+settingsOf k b a m strand = record { k = k; b = b; a = a; m = m; strand = strand }
 
 -- "a number, a sequence, a detail, and four tallies: entries listed, M, W, link total"
 unfoldable pub answerNumbers : Answer → List ℕ

@@ -1,5 +1,5 @@
 -- What stands after the first 300,000 bytes of an input changes nothing: each good line is paid for by its letters, at most 9 bytes a letter, so the
--- first line that is bad or too long to be a line begins within the first 294,940. Assumes nothing.
+-- first line that is bad or too long to be a line begins within the first 294,942. Assumes nothing.
 use mathlib.Core.Path.{_≡_, refl, sym, ap, _∙_}
 use mathlib.Core.Bool.{Bool, true, false, cond, _||_}
 use mathlib.Core.List.{List, [], _∷_}
@@ -16,11 +16,11 @@ use Rattle.lines.proofs.Decoding.{line-long, line-parts, bytes-length}
 use Rattle.lines.proofs.Frames.{frame-read}
 use Rattle.payloads.specs.Pieces.{codesIn}
 use Rattle.input.specs.Lines.{linesOf, lineSize}
-use Rattle.input.specs.Grammar.{Progress, nothingYet, inTurn, frameNumber, payloadIn, sizeNumber, isPiece, pieceNumber, payloadNumber, lineNumber, lettersIn, after, stopped, readLines, inputOf}
+use Rattle.input.specs.Grammar.{Progress, nothingYet, inTurn, frameNumber, payloadIn, sizeNumber, jobSize, isPiece, pieceNumber, payloadNumber, lineNumber, lettersIn, after, stopped, readLines, inputOf}
 use Rattle.input.proofs.Lines.{size-some, first-line}
 use Rattle.input.proofs.Unpacking.{piece-parts, count-least}
 use Rattle.input.proofs.Numbering.{InItsTurn, in-turn-parts}
-use Rattle.input.proofs.Taking.{payload-size, frame-size, few-letters}
+use Rattle.input.proofs.Taking.{payload-size, frame-size, JobSized, seven, eight, job-sized, few-letters}
 
 -- ---- lines of an input that is cut
 
@@ -70,11 +70,11 @@ record Small (p : Progress) : Type 0 where
   first : length (p .first) ≤ 16384
   second : length (p .second) ≤ 16384
 
--- the bytes of all good lines that may still come: a job of 21, an end of 7, and 9 for each letter
+-- the bytes of all good lines that may still come: a job of 21 or 23, an end of 7, and 9 for each letter
 unfoldable needs : Progress → ℕ
 needs p =
     let pieces = 9 * (32768 - (length (p .first) + length (p .second))) in
-    cond (eqb (p .turn) 0) (28 + pieces) (cond (eqb (p .turn) 3) 0 (7 + pieces))
+    cond (eqb (p .turn) 0) (30 + pieces) (cond (eqb (p .turn) 3) 0 (7 + pieces))
 
 record Step (p : Progress) (l : List ℕ) : Type 0 where
   paid : needs (after p l) + length l ≤ needs p
@@ -101,13 +101,15 @@ good p l z = go (eqb (frameNumber (p .turn) (frameIn l)) 0) refl
           long = omega (arith, payload-size l f, frame-size l f, bytes-length l (line-parts l (f .ok) .ends));
         }
 
-size-right : (right n : ℕ) → sizeNumber right n ≡ 0 → n ≡ right
+size-right : (right : Bool) → sizeNumber right ≡ 0 → right ≡ true
 unfolding sizeNumber
-size-right right n z = go (eqb n right) refl
-  where
-    go : (t : Bool) → eqb n right ≡ t → n ≡ right
-    go true e = eqb-true n right e
-    go false e = let w = rw e at z in absurd (omega arith)
+size-right true z = refl
+size-right false z = absurd (omega arith)
+
+-- a job has at most 8 bytes
+job-most : {size : ℕ} → JobSized size → size ≤ 8
+job-most (seven e) = omega arith
+job-most (eight e) = omega arith
 
 -- a piece has a letter for each 9 bytes of its line
 piece-pays : (payload : List ℕ) (count : ℕ) → pieceNumber payload count ≡ 0 → 2 * length payload + 7 ≤ 9 * length (codesIn payload)
@@ -138,7 +140,7 @@ module _ (p : Progress) (l : List ℕ) (sm : Small p) (g : Good p l) where
   unfolding payloadNumber inTurn after needs
   job-step k =
       let t : p .turn ≡ 0 = eqb-true (p .turn) 0 (rw k at (g .turn .turns)) in
-      let n : length (payloadIn l) ≡ 7 = size-right 7 (length (payloadIn l)) (rw k at (g .right)) in
+      let n = job-most (job-sized (length (payloadIn l)) (size-right (jobSize (length (payloadIn l))) (rw k at (g .right)))) in
       record {
         paid = rw (k, t) (omega (arith, g .long));
         small = rw k record { first = sm .first; second = sm .second };
@@ -174,7 +176,7 @@ module _ (p : Progress) (l : List ℕ) (sm : Small p) (g : Good p l) where
   unfolding payloadNumber inTurn after needs
   end-step k1 k2 k3 =
       let t = either (p .turn) (rw (k1, k2) at (g .turn .turns)) in
-      let n : length (payloadIn l) ≡ 0 = size-right 0 (length (payloadIn l)) (rw (k1, k2, k3) at (g .right)) in
+      let n : length (payloadIn l) ≡ 0 = eqb-true (length (payloadIn l)) 0 (size-right (eqb (length (payloadIn l)) 0) (rw (k1, k2, k3) at (g .right))) in
       record {
         paid = rw (k1, k2, k3, t .0, t .1) (omega (arith, g .long));
         small = rw (k1, k2, k3) record { first = sm .first; second = sm .second };

@@ -16,14 +16,14 @@ use Rattle.lines.specs.Writing.{checkOf, frameOf, lineOf}
 use Rattle.lines.specs.Reading.{frameIn}
 use Rattle.lines.proofs.Storing.{digits-length}
 use Rattle.lines.proofs.RoundTrip.{Bytes, none, line-bytes, line-read}
-use Rattle.payloads.specs.Numbers.{numberBytes}
 use Rattle.payloads.specs.Pieces.{codeBytes, codesIn, pieceFits}
 use Rattle.frames.specs.Kinds.{jobPayload, jobFits, jobLine, pieceLine, endLine}
 use Rattle.frames.specs.Readers.{jobIn}
 use Rattle.payloads.proofs.Pieces.{PieceFits, piece-parts, packed-length, packed-are-bytes, codes-back}
-use Rattle.frames.proofs.RoundTrip.{job-bytes, job-frame}
+use Rattle.frames.proofs.Jobs.{JobForm, forward, stranded, job-form, forward-size, stranded-size, job-few, job-are-bytes}
+use Rattle.frames.proofs.RoundTrip.{job-frame}
 use Rattle.input.specs.Lines.{linesOf, lineSize}
-use Rattle.input.specs.Grammar.{Progress, nothingYet, knownKind, inTurn, frameNumber, payloadIn, sizeNumber, isPiece, pieceNumber, payloadNumber, lineNumber, lettersIn, after, finished, readLines, inputOf}
+use Rattle.input.specs.Grammar.{Progress, nothingYet, knownKind, inTurn, frameNumber, payloadIn, sizeNumber, jobSize, isPiece, pieceNumber, payloadNumber, lineNumber, lettersIn, after, finished, readLines, inputOf}
 use Rattle.input.proofs.Lines.{first-line}
 
 -- ---- a written line is found again
@@ -83,21 +83,30 @@ progress t c f g = record { turn = t; settings = c; first = f; second = g }
 
 -- ---- a job
 
+-- either size of a job is right
+job-right : (c : Settings) → jobSize (length (jobPayload c)) ≡ true
+unfolding jobSize
+job-right c = go (job-form c)
+  where
+    go : JobForm c → eqb (length (jobPayload c)) 7 || eqb (length (jobPayload c)) 8 ≡ true
+    go (forward z e) = rw (forward-size c z)
+    go (stranded n e) = rw (stranded-size c n)
+
 job-number : (c : Settings) → lineNumber nothingYet (jobLine c) ≡ 0
-unfolding jobLine jobPayload numberBytes nothingYet inTurn knownKind payloadNumber sizeNumber
-job-number c = number-back 1 (jobPayload c) (lit< tt) (lit< tt) (job-bytes c) nothingYet refl refl refl
+unfolding jobLine nothingYet inTurn knownKind payloadNumber sizeNumber
+job-number c = number-back 1 (jobPayload c) (lit< tt) (job-few c) (job-are-bytes c) nothingYet refl refl (rw (job-right c))
 
 after-job : (p : Progress) (line : List ℕ) → frameIn line .kind ≡ 1
-    → after p line ≡ record { turn = 1; settings = jobIn (bytesIn line); first = p .first; second = p .second }
+    → after p line ≡ record { turn = 1; settings = jobIn (frameIn line .size) (bytesIn line); first = p .first; second = p .second }
 unfolding after
 after-job p line k = rw k
 
 job-after : (c : Settings) → jobFits c ≡ true → after nothingYet (jobLine c) ≡ progress 1 c [] []
-unfolding jobLine jobPayload numberBytes nothingYet
+unfolding jobLine nothingYet
 job-after c h =
-    let b = job-bytes c in
-    after-job nothingYet (jobLine c) (rw (line-read 1 (jobPayload c) (lit< tt) (lit< tt) b))
-    ∙ ap (λ (bs : List ℕ). progress 1 (jobIn bs) [] []) (line-bytes 1 (jobPayload c) (lit< tt) (lit< tt) b) ∙ ap (λ (d : Settings). progress 1 d [] []) (job-frame c h)
+    let r = line-read 1 (jobPayload c) (lit< tt) (job-few c) (job-are-bytes c) in
+    let b = line-bytes 1 (jobPayload c) (lit< tt) (job-few c) (job-are-bytes c) in
+    after-job nothingYet (jobLine c) (rw r) ∙ rw (r, b) (ap (λ (d : Settings). progress 1 d [] []) (job-frame c h))
 
 -- ---- pieces
 

@@ -1,11 +1,11 @@
 -- One line taken, by its kind: where it is wrong all stays as it was, and else the state and the letters hold what the grammar says. Assumes nothing.
 use mathlib.Core.Path.{_≡_, refl, sym, ap, subst⁻¹, _∙_}
-use mathlib.Core.Bool.{Bool, true, false}
+use mathlib.Core.Bool.{Bool, true, false, _||_}
 use mathlib.Core.List.{List, _++_}
-use Prim.Native.Nat.{ℕ, _+_, _<_, _≤_}
+use Prim.Native.Nat.{ℕ, _+_, _≤_}
 use native.Mathlib.Omega.{arith}
 use lib.Dec.{eqb, leb}
-use lib.ListN.{length, getD, take, drop, length-append, length-drop, length-map}
+use lib.ListN.{length, take, drop, length-append, length-drop, length-map}
 use lib.Seq.{sets, sets-eq, length-take-le, take-at, drop-at, take-append-le, drop-append-le}
 use borrow.Author.Tests.{ne-eqb, eqb-true, eqb-false, leb-true}
 use Rattle.rules.specs.Letters.{letterOf}
@@ -15,11 +15,12 @@ use Rattle.lines.proofs.Storing.{sets-front}
 use Rattle.lines.proofs.Decoding.{byte-at}
 use Rattle.lines.proofs.Frames.{count-most, FrameRead, frame-read}
 use Rattle.payloads.specs.Pieces.{codesIn}
-use Rattle.frames.specs.Readers.{jobIn}
+use Rattle.payloads.specs.Numbers.{numberAt}
+use Rattle.frames.specs.Readers.{strandIn, jobIn}
 use Rattle.payloads.proofs.Numbers.{number-same}
 use Rattle.input.specs.declared.State.{State}
 use Rattle.input.specs.declared.Taken.{Taken}
-use Rattle.input.specs.Grammar.{Progress, isPiece, frameNumber, payloadIn, sizeNumber, pieceNumber, payloadNumber, lineNumber, lettersIn, after}
+use Rattle.input.specs.Grammar.{Progress, isPiece, frameNumber, payloadIn, sizeNumber, jobSize, pieceNumber, payloadNumber, lineNumber, lettersIn, after}
 use Rattle.input.specs.States.{pieceTaken, pieceLeft, numbered, jobState, firstState, secondState, endState, progressOf, StateSafe, LineTaken}
 use Rattle.input.proofs.Numbering.{is-frame}
 
@@ -31,6 +32,19 @@ frame-size line f = omega (arith, f .size, f .long)
 pub payload-size : (line : List ℕ) → FrameRead line → length (payloadIn line) ≡ frameIn line .size
 unfolding payloadIn
 payload-size line f = length-take-le (frameIn line .size) (drop 2 (bytesIn line)) (omega (arith, length-drop 2 (bytesIn line), frame-size line f))
+
+-- a job's payload has 7 bytes or 8
+pub data JobSized (size : ℕ) : Type 0 where
+  seven : size ≡ 7 → JobSized size
+  eight : size ≡ 8 → JobSized size
+
+pub job-sized : (size : ℕ) → jobSize size ≡ true → JobSized size
+unfolding jobSize
+job-sized size h = go (eqb size 7) refl h
+  where
+    go : (t : Bool) → eqb size 7 ≡ t → t || eqb size 8 ≡ true → JobSized size
+    go true e w = seven (eqb-true size 7 e)
+    go false e w = eight (eqb-true size 8 w)
 
 -- ---- the letters of a piece
 
@@ -123,34 +137,36 @@ module _ (line : List ℕ) (s : State) (first second : List ℕ) (safe : StateSa
           drop-append-le 2 (bytesIn line) (drop (length (bytesIn line)) old) (omega arith) in
           rw (in-place, d) (take-append-le (frameIn line .size) (drop 2 (bytesIn line)) (drop (length (bytesIn line)) old) (omega (arith, length-drop 2 (bytesIn line))))
 
-      job-is : frameIn line .size ≡ 7 → jobIn bytes ≡ jobIn (bytesIn line)
-      unfolding jobIn bytesLeft
-      job-is e =
+      -- a number of the payload stands in the bytes as in the line's
+      number-is : (at width : ℕ) → at + width ≤ frameIn line .size + 2 → numberAt bytes at width ≡ numberAt (bytesIn line) at width
+      unfolding bytesLeft
+      number-is at width h =
           let n = size-is in
           let b : bytes ≡ sets old 0 (bytesIn line) = left ∙ rw (found .ok) in
-          let same : (i : ℕ) → i < 10 → getD bytes i 0 ≡ getD (bytesIn line) i 0 = λ i l. rw b (byte-at line old i (omega arith) (omega (arith, count-most line (found .ok)))) in
-          rw (
-            number-same bytes (bytesIn line) 2 1 (λ i l. same i (omega arith)),
-            number-same bytes (bytesIn line) 3 2 (λ i l. same i (omega arith)),
-            number-same bytes (bytesIn line) 5 2 (λ i l. same i (omega arith)),
-            number-same bytes (bytesIn line) 7 2 (λ i l. same i (omega arith)),
-          )
+          number-same bytes (bytesIn line) at width (λ i l. rw b (byte-at line old i (omega arith) (omega (arith, count-most line (found .ok)))))
+
+      job-is : {size : ℕ} → size ≡ frameIn line .size → JobSized size → jobIn size bytes ≡ jobIn size (bytesIn line)
+      unfolding jobIn strandIn
+      job-is n (seven e) = rw e (rw (number-is 2 1 (omega arith), number-is 3 2 (omega arith), number-is 5 2 (omega arith), number-is 7 2 (omega arith)))
+      job-is n (eight e) =
+          rw e
+          (rw (number-is 2 1 (omega arith), number-is 3 2 (omega arith), number-is 5 2 (omega arith), number-is 7 2 (omega arith), number-is 9 1 (omega arith)))
 
       pub job-taken : (size : ℕ) (r : State) → frameIn line .kind ≡ 1 → size ≡ frameIn line .size → r ≡ jobState s bytes size → LineTaken line s first second r first second
       unfolding payloadNumber sizeNumber jobState after progressOf
-      job-taken size r k n q = go (eqb size 7) refl
+      job-taken size r k n q = go (jobSize size) refl
         where
-          by : lineNumber here line ≡ sizeNumber 7 size
+          by : lineNumber here line ≡ sizeNumber (jobSize size)
           by = number-by ∙ rw (k, payload-size line found, n)
 
-          go : (t : Bool) → eqb size 7 ≡ t → LineTaken line s first second r first second
+          go : (t : Bool) → jobSize size ≡ t → LineTaken line s first second r first second
           go false e = stays 25 r (by ∙ rw e) (λ w. omega arith) (rw e at q)
           go true e =
               let m : lineNumber here line ≡ 0 = by ∙ rw e in
               subst⁻¹ (λ (t : State). LineTaken line s first second t first second) (rw e at q)
               record {
                 number = sym m;
-                progress = rw (m, k, job-is (sym n ∙ eqb-true size 7 e));
+                progress = rw (m, k, ← n) (rw (job-is n (job-sized size e)));
                 first-most = safe .first-most;
                 second-most = safe .second-most;
                 first-grows = omega arith;
@@ -164,7 +180,7 @@ module _ (line : List ℕ) (s : State) (first second : List ℕ) (safe : StateSa
     unfolding payloadNumber sizeNumber endState after progressOf
     end-taken size r k1 k2 k3 n q = go (eqb size 0) refl
       where
-        by : lineNumber here line ≡ sizeNumber 0 size
+        by : lineNumber here line ≡ sizeNumber (eqb size 0)
         by = number-by ∙ rw (ne-eqb (frameIn line .kind) 1 k1, ne-eqb (frameIn line .kind) 2 k2, ne-eqb (frameIn line .kind) 3 k3, payload-size line found, n)
 
         go : (t : Bool) → eqb size 0 ≡ t → LineTaken line s first second r first second

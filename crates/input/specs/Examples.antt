@@ -1,9 +1,10 @@
--- Document 01, "Examples in the registry": the input of P1, and what the readings of its refusals come to on it. Assumes nothing.
+-- Document 01, "Examples in the registry": the input of P1, and what the readings of its refusals come to on it. CR 1: P1 over both strands. Assumes
+-- nothing.
 use mathlib.Core.Path.{_≡_, refl}
 use mathlib.Core.List.{List, [], _∷_, _++_}
 use Prim.Native.Nat.{ℕ}
 use Rattle.rules.specs.Lists.{text, laid}
-use Rattle.input.specs.Grammar.{refusedInput, inputOf}
+use Rattle.input.specs.Grammar.{Outcome, refusedInput, inputOf}
 
 -- lines, each with its line feed
 abbrev pub fed : List (List ℕ) → List ℕ
@@ -26,12 +27,17 @@ abbrev pub end : List ℕ
 unfolding text
 end = text "0400FC"
 
-pub P1 : inputOf (fed (job ∷ first ∷ second ∷ end ∷ []))
-    ≡ record {
-      answer = record { number = 0; line = 0; settings = record { k = 2; b = 2; a = 8; m = 0 }; first = 5; second = 5 };
+-- P1 with a strand, as it is read
+abbrev pub P1-read : ℕ → Outcome
+unfolding text
+P1-read strand =
+    record {
+      answer = record { number = 0; line = 0; settings = record { k = 2; b = 2; a = 8; m = 0; strand = strand }; first = 5; second = 5 };
       first = text "ACCGT";
       second = text "ACGGT";
     }
+
+pub P1 : inputOf (fed (job ∷ first ∷ second ∷ end ∷ [])) ≡ P1-read 0
 unfolding inputOf text laid
 P1 = refl
 
@@ -74,3 +80,27 @@ zero-code = refl
 pub odd-pieces : inputOf (fed (job ∷ text "020110ED" ∷ text "020120DD" ∷ end ∷ [])) .first ≡ text "AC"
 unfolding inputOf text laid
 odd-pieces = refl
+
+-- ---- CR 1: "a job of 8 payload bytes ends with the strand"
+
+pub P1-both : inputOf (fed (text "01080200020008000001EA" ∷ first ∷ second ∷ end ∷ [])) ≡ P1-read 1
+unfolding inputOf text laid
+P1-both = refl
+
+-- a strand of 0 may be written out, and one of 2 is read as it is
+pub strand-0 : inputOf (fed (text "01080200020008000000EB" ∷ first ∷ second ∷ end ∷ [])) ≡ P1-read 0
+unfolding inputOf text laid
+strand-0 = refl
+
+pub strand-2 : inputOf (fed (text "01080200020008000002E9" ∷ first ∷ second ∷ end ∷ [])) ≡ P1-read 2
+unfolding inputOf text laid
+strand-2 = refl
+
+-- 25: jobs of 9 bytes and of 6
+pub nine-bytes : inputOf (fed (text "0109020002000800000100E9" ∷ end ∷ [])) .answer ≡ refusedInput 25 1
+unfolding inputOf text laid
+nine-bytes = refl
+
+pub six-bytes : inputOf (fed (text "0106020002000800ED" ∷ end ∷ [])) .answer ≡ refusedInput 25 1
+unfolding inputOf text laid
+six-bytes = refl

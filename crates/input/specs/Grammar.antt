@@ -1,5 +1,5 @@
--- Document 01, "Frames": "Input: one job, any number of 02, any number of 03, one end.", and the refusals 20 to 26, "with sequence 0 and as detail the
--- line counted from 1; the first bad line decides, then the lowest number". Assumes nothing.
+-- Document 01, "Frames", with document 02's CR 1: "Input: one job, any number of 02, any number of 03, one end.", and the refusals 20 to 26, "with
+-- sequence 0 and as detail the line counted from 1; the first bad line decides, then the lowest number". Assumes nothing.
 use mathlib.Core.Bool.{Bool, cond, _&&_, _||_}
 use mathlib.Core.List.{List, [], _∷_, _++_, map}
 use Prim.Native.Nat.{ℕ, suc, _+_}
@@ -23,7 +23,7 @@ pub record Progress : Type 0 where
   pub second : List ℕ
 
 unfoldable pub noSettings : Settings
-noSettings = record { k = 0; b = 0; a = 0; m = 0 }
+noSettings = record { k = 0; b = 0; a = 0; m = 0; strand = 0 }
 
 unfoldable pub nothingYet : Progress
 unfolding noSettings
@@ -49,9 +49,13 @@ unfoldable pub payloadIn : List ℕ → List ℕ
 unfolding frameIn bytesIn
 payloadIn line = take (frameIn line .size) (drop 2 (bytesIn line))
 
--- 25: "payload size wrong for its kind": a job has 7 bytes, an end none
-unfoldable pub sizeNumber : ℕ → ℕ → ℕ
-sizeNumber right size = cond (eqb size right) 0 25
+-- 25: "payload size wrong for its kind"
+unfoldable pub sizeNumber : Bool → ℕ
+sizeNumber right = cond right 0 25
+
+-- a job has 7 bytes or, with CR 1, 8: "a job of 8 payload bytes ends with the strand". Any strand is read, and one not 0 or 1 refused later, with 9
+unfoldable pub jobSize : ℕ → Bool
+jobSize size = eqb size 7 || eqb size 8
 
 -- a piece has 1 to 64 bytes, and no "0 code anywhere but an odd last half"
 unfoldable pub isPiece : List ℕ → Bool
@@ -63,13 +67,13 @@ unfoldable pub pieceNumber : List ℕ → ℕ → ℕ
 unfolding isPiece codesIn
 pieceNumber payload count = cond (isPiece payload) (cond (leb (count + length (codesIn payload)) 16384) 0 26) 25
 
--- 25 and 26, by the kind
+-- 25 and 26, by the kind. An end has no bytes
 unfoldable pub payloadNumber : Progress → ℕ → List ℕ → ℕ
-unfolding sizeNumber pieceNumber
+unfolding sizeNumber jobSize pieceNumber
 payloadNumber p kind payload =
-    cond (eqb kind 1) (sizeNumber 7 (length payload))
+    cond (eqb kind 1) (sizeNumber (jobSize (length payload)))
     (cond (eqb kind 2) (pieceNumber payload (length (p .first)))
-    (cond (eqb kind 3) (pieceNumber payload (length (p .second))) (sizeNumber 0 (length payload))))
+    (cond (eqb kind 3) (pieceNumber payload (length (p .second))) (sizeNumber (eqb (length payload) 0))))
 
 -- what is wrong with a line, the lowest number first; 0 where nothing is
 unfoldable pub lineNumber : Progress → List ℕ → ℕ
@@ -89,7 +93,7 @@ unfolding frameIn bytesIn payloadIn lettersIn jobIn
 after p line =
     let kind = frameIn line .kind in
     let letters = lettersIn (payloadIn line) in
-    cond (eqb kind 1) (record { turn = 1; settings = jobIn (bytesIn line); first = p .first; second = p .second })
+    cond (eqb kind 1) (record { turn = 1; settings = jobIn (frameIn line .size) (bytesIn line); first = p .first; second = p .second })
     (cond (eqb kind 2) (record { turn = 1; settings = p .settings; first = p .first ++ letters; second = p .second })
     (cond (eqb kind 3) (record { turn = 2; settings = p .settings; first = p .first; second = p .second ++ letters })
     (record { turn = 3; settings = p .settings; first = p .first; second = p .second })))

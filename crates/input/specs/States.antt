@@ -10,7 +10,7 @@ use Rattle.payloads.specs.Pieces.{codesIn}
 use Rattle.frames.specs.Readers.{jobIn}
 use Rattle.input.specs.declared.State.{State}
 use Rattle.input.specs.declared.Taken.{Taken}
-use Rattle.input.specs.Grammar.{Progress, pieceNumber, lettersIn, lineNumber, after}
+use Rattle.input.specs.Grammar.{Progress, jobSize, pieceNumber, lettersIn, lineNumber, after}
 
 -- letters in front of a buffer, and behind them what was there
 unfoldable pub inFront : List ℕ → List ℕ → List ℕ
@@ -33,9 +33,9 @@ unfoldable pub numbered : State → ℕ → State
 numbered s number = record { number = number; turn = s .turn; settings = s .settings; first = s .first; second = s .second }
 
 unfoldable pub jobState : State → List ℕ → ℕ → State
-unfolding numbered jobIn
+unfolding numbered jobSize jobIn
 jobState s bytes size =
-    cond (eqb size 7) (record { number = 0; turn = 1; settings = jobIn bytes; first = s .first; second = s .second }) (numbered s 25)
+    cond (jobSize size) (record { number = 0; turn = 1; settings = jobIn size bytes; first = s .first; second = s .second }) (numbered s 25)
 
 unfoldable pub firstState : State → Taken → State
 unfolding numbered

@@ -8,6 +8,7 @@ ghost use Prim.Native.Nat.{_+_, _≤_, _<_};
 ghost use lib.ListN.{length, drop};
 ghost use lib.Seq.{sets};
 ghost use Rattle.payloads.specs.Pieces.{allCodes, codesIn};
+ghost use Rattle.frames.specs.Readers.{strandIn};
 ghost use Rattle.input.specs.Lines.{lineSize};
 ghost use Rattle.input.specs.Grammar.{inTurn, frameNumber, isPiece, lettersIn, noSettings, refusedInput, inputOf};
 ghost use Rattle.input.specs.States.{numbered, jobState, firstState, secondState, endState, pieceTaken, pieceLeft, StateSafe, LineTaken, inFront};
@@ -174,16 +175,28 @@ fn number_state(mut s: State, number: u64) -> State
     s
 }
 
+// The strand that a job of 8 payload bytes ends with. One of 7 is forward.
+fn strand_in(size: usize, bytes: &[u8]) -> u32
+    requires { ⌜ 67 ≤ length (now bytes) ⌝ }
+    ensures { λ r. ⌜ r ≡ strandIn size (now (bytes .entry)) ⌝ }
+{
+    if size == 8 {
+        return payloads::number_at(bytes, 9, 1) as u32;
+    }
+    0
+}
+
 fn job_state(s: State, bytes: &[u8], size: usize) -> State
     requires { ⌜ 67 ≤ length (now bytes) ⌝ }
     ensures { λ r. ⌜ r ≡ jobState s (now (bytes .entry)) size ⌝ }
 {
-    if size == 7 {
+    if (size == 7) | (size == 8) {
         let settings = Settings {
             k: payloads::number_at(bytes, 2, 1) as u32,
             b: payloads::number_at(bytes, 3, 2) as u32,
             a: payloads::number_at(bytes, 5, 2) as u32,
             m: payloads::number_at(bytes, 7, 2) as u32,
+            strand: strand_in(size, bytes),
         };
         return State {
             number: 0,
@@ -264,6 +277,7 @@ fn no_settings() -> Settings
         b: 0,
         a: 0,
         m: 0,
+        strand: 0,
     }
 }
 

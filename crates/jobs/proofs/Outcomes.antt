@@ -1,13 +1,11 @@
 -- Each way a job ends is a line of its table: the tallies are counted from the walks, and the rooms are what the sweep left, with zeros after it.
 -- Assumes nothing.
-use mathlib.Core.Path.{_≡_, refl, sym, ap, subst, subst⁻¹, _∙_}
+use mathlib.Core.Path.{_≡_, refl, sym, ap, subst⁻¹, _∙_}
 use mathlib.Core.Bool.{Bool}
 use mathlib.Core.List.{List, [], _++_}
-use Prim.Native.Nat.{ℕ, _+_, _-_, _*_, _^_, _≤_, _<_}
+use Prim.Native.Nat.{ℕ, _+_, _-_, _*_, _≤_, _<_}
 use native.Mathlib.Omega.{arith}
 use native.Mathlib.Nat.{le-of-eq}
-use borrow.Author.Tests.{lt-ltb, le-ltb}
-use lib.Dec.{ltb}
 use lib.ListN.{length, getD, take, replicate, List·getD-eq-default}
 use lib.Seq.{getD-take, length-take-le}
 use Rattle.rules.specs.declared.Settings.{Settings}
@@ -17,48 +15,20 @@ use Rattle.rules.specs.declared.Record.{Record}
 use Rattle.rules.specs.Lists.{keep, laid, thenZeros, zeros}
 use Rattle.rules.specs.Matches.{matchesTo}
 use Rattle.rules.specs.Records.{recordsFrom}
-use Rattle.rules.specs.Listing.{entryNumbers}
 use Rattle.rules.specs.Rooms.{workHolds, listHolds, recordNumbers, inRun, largestRun, pairs}
-use Rattle.rules.specs.Answers.{Outcome, firstOf, refusal, zeroed}
+use Rattle.rules.specs.Answers.{Outcome, refusal, done, zeroed}
 use Rattle.rules.proofs.Tests.{Three, below, equal, above, three}
+use Rattle.rules.proofs.Outcomes.{compares-7, compares-8, compares-0, stops-7, stops-19, stops-0}
 use Rattle.matches.specs.Walks.{WalkSafe, Described}
 use Rattle.tally.specs.declared.Counts.{Counts}
 use Rattle.tally.specs.Tallies.{MatchedBefore, Counted, Linked}
 use Rattle.predecessors.specs.declared.Ring.{Ring}
 use Rattle.predecessors.specs.Numbers.{slotOf}
-use Rattle.listing.specs.Leaving.{ListedTo}
-use Rattle.sweep.specs.Sweeping.{SweepSafe, ListsAll, HoldsRun}
-use Rattle.jobs.specs.Jobs.{doneWith, listingOf, runOf, comparedOf, stoppedOf, Walked, Lists, Holds, RingFrom, ComparesMatches, StopsMatches}
-use Rattle.jobs.proofs.Runs.{none-needed, fewer-rows, same-run}
-
--- ---- the sweep
-
-pub sweep-safe : (firsts nexts work : List ℕ) (c : Settings) (widest : ℕ) → Walked firsts nexts c → 8 * widest ≤ length work → widest < 2 ^ 32 → (widest ≡ 0 → ⊥)
-    → SweepSafe firsts nexts work (record { size = widest; origin = 0 }) c
-sweep-safe firsts nexts work c widest w h s n =
-    record {
-      fits = record { some-room = omega arith; begins = omega arith; small = s };
-      room-for = h;
-      walks = w .walks;
-      wide = w .wide;
-      some-base = w .some-base;
-      few-bases = w .few-bases;
-    }
-
--- where W is 0 nothing is listed
-pub lists-none : {firsts nexts list : List ℕ} {c : Settings} {widest : ℕ} → widest ≡ 0 → Lists firsts nexts widest c list 0
-unfolding keep laid recordsFrom
-lists-none {firsts} {nexts} {list} {c} {widest} z = record { entered = go }
-  where
-    go : (hit : Cell → Bool) (columns : ℕ) → Described hit columns firsts nexts → widest ≡ largestRun (c .b) (matchesTo hit columns (length firsts)) (length firsts)
-        → ListedTo c (matchesTo hit columns (length firsts)) (recordsFrom (c .b) [] (matchesTo hit columns (length firsts))) list 0
-    go hit columns d e =
-        subst⁻¹ (λ (cells : List Cell). ListedTo c cells (recordsFrom (c .b) [] cells) list 0) (none-needed (c .b) hit columns (length firsts) (sym e ∙ z))
-        (record { counted = refl; entries = λ h. refl })
-
-pub lists-swept : {firsts nexts list : List ℕ} {c : Settings} {widest n : ℕ} → ListsAll firsts nexts (record { size = widest; origin = 0 }) c list n → Lists firsts nexts widest c list n
-lists-swept a =
-    record { entered = λ hit columns d e. a .entered hit columns (record { described = d; enough = le-of-eq (sym e) }) }
+use Rattle.sweep.specs.Sweeping.{SweepSafe, HoldsRun}
+use Rattle.strands.specs.Strands.{entriesOf, largerOf, Walked, WalkTo, CountsBoth, LinksBoth, ListsBoth}
+use Rattle.strands.proofs.Needs.{none-needed}
+use Rattle.jobs.specs.Jobs.{runOf, comparedOf, stoppedOf, Holds, RingFrom, ComparesMatches, StopsMatches}
+use Rattle.jobs.proofs.Runs.{fewer-rows, same-run}
 
 -- ---- the run of a row
 
@@ -121,47 +91,6 @@ holds-swept {firsts} {nexts} {work} {work′} {c} {widest} {row} {last} {before}
         ap (λ (q : ℕ). keep (λ (x : Record). inRun (c .b) q (x .cell)) (recordsFrom (c .b) [] (matchesTo hit columns q))) len ∙ same-run (c .b) hit columns (length firsts) row h in
         (r .0 ∙ ap length same, r .1 ∙ ap (λ (l : List Record). thenZeros (laid recordNumbers l) (length work)) same)
 
--- ---- the tables
-
-module _ (c : Settings) (cells : List Cell) (rows : ℕ) (work list : List ℕ) where
-  abbrev W : ℕ
-  W = largestRun (c .b) cells rows
-
-  table-7 : workHolds work < W → zeroed 7 W work list ≡ comparedOf c cells rows work list
-  unfolding comparedOf firstOf
-  table-7 h = rw (lt-ltb (workHolds work) W h)
-
-  table-8 : W ≤ workHolds work → listHolds list < length (listingOf c cells) → zeroed 8 (length (listingOf c cells)) work list ≡ comparedOf c cells rows work list
-  unfolding comparedOf firstOf
-  table-8 h g = rw (le-ltb (workHolds work) W h, lt-ltb (listHolds list) (length (listingOf c cells)) g)
-
-  table-0 : W ≤ workHolds work → length (listingOf c cells) ≤ listHolds list
-      → _≡_ {A = Outcome} (record {
-        answer = doneWith (length (listingOf c cells)) (length cells) W (pairs (c .b) cells);
-        work = zeros work;
-        list = thenZeros (laid (entryNumbers (c .k)) (listingOf c cells)) (length list);
-      }) (comparedOf c cells rows work list)
-  unfolding comparedOf firstOf
-  table-0 h g = rw (le-ltb (workHolds work) W h, le-ltb (listHolds list) (length (listingOf c cells)) g)
-
-module _ (c : Settings) (cells : List Cell) (rows : ℕ) (work : List ℕ) (r : ℕ) where
-  stop-7 : workHolds work < largestRun (c .b) cells rows → zeroed 7 (largestRun (c .b) cells rows) work [] ≡ stoppedOf c cells rows work r
-  unfolding stoppedOf firstOf
-  stop-7 h = rw (lt-ltb (workHolds work) (largestRun (c .b) cells rows) h)
-
-  stop-19 : largestRun (c .b) cells rows ≤ workHolds work → rows < r → zeroed 19 rows work [] ≡ stoppedOf c cells rows work r
-  unfolding stoppedOf firstOf
-  stop-19 h g = rw (le-ltb (workHolds work) (largestRun (c .b) cells rows) h, lt-ltb rows r g)
-
-  stop-0 : largestRun (c .b) cells rows ≤ workHolds work → r ≤ rows
-      → _≡_ {A = Outcome} (record {
-        answer = doneWith (length (runOf c cells r)) (length cells) (largestRun (c .b) cells rows) (pairs (c .b) cells);
-        work = thenZeros (laid recordNumbers (runOf c cells r)) (length work);
-        list = [];
-      }) (stoppedOf c cells rows work r)
-  unfolding stoppedOf firstOf
-  stop-0 h g = rw (le-ltb (workHolds work) (largestRun (c .b) cells rows) h, le-ltb rows r g)
-
 -- ---- the compare job
 
 outcome-path : {a a′ : Answer} {w w′ l l′ : List ℕ} → a ≡ a′ → w ≡ w′ → l ≡ l′ → _≡_ {A = Outcome} (record { answer = a; work = w; list = l }) (record { answer = a′; work = w′; list = l′ })
@@ -175,7 +104,7 @@ holds-same : (a b : List ℕ) → length a ≡ length b → listHolds a ≡ list
 unfolding listHolds
 holds-same a b e = rw e
 
-room-for : (list : List ℕ) (n : ℕ) → n ≤ listHolds list → 5 * n ≤ length list
+room-for : (list : List ℕ) (n : ℕ) → n ≤ listHolds list → 6 * n ≤ length list
 unfolding listHolds
 room-for list n h = omega arith
 
@@ -186,83 +115,93 @@ counted {firsts} c eb n hit columns d =
     let e = n .exact hit columns d in
     (e .0, e .1 ∙ ap (λ (q : ℕ). largestRun q (matchesTo hit columns (length firsts)) (length firsts)) eb)
 
-module _ {firsts nexts : List ℕ} {c : Settings} {work list : List ℕ} {b : ℕ} (eb : b ≡ c .b) {counts : Counts} (n : Counted firsts nexts b counts) where
+-- and the larger need of both strands
+needed : {firsts nexts reverse-firsts reverse-nexts : List ℕ} (c : Settings) {b : ℕ} → b ≡ c .b → {counts : Counts} → CountsBoth firsts nexts reverse-firsts reverse-nexts b counts
+    → {forward reverse : List Cell} → WalkTo firsts nexts forward → WalkTo reverse-firsts reverse-nexts reverse
+    → counts .widest ≡ largerOf (c .b) forward (length firsts) reverse (length reverse-firsts)
+needed {firsts} {nexts} {reverse-firsts} c eb n {forward} {reverse} f r =
+    n .exact forward reverse f r .1 ∙ ap (λ (q : ℕ). largerOf q forward (length firsts) reverse (length reverse-firsts)) eb
+
+module _ {firsts nexts reverse-firsts reverse-nexts : List ℕ} {c : Settings} {letters : ℕ} {work list : List ℕ} {b : ℕ} (eb : b ≡ c .b) {counts : Counts}
+    (n : CountsBoth firsts nexts reverse-firsts reverse-nexts b counts) where
   pub compare-7 : {work′ list′ : List ℕ} {r : Answer} → workHolds work < counts .widest → r ≡ refusal 7 0 (counts .widest) → work′ ≡ zeros work → list′ ≡ zeros list
-      → ComparesMatches firsts nexts c work list work′ list′ r
-  unfolding zeroed
+      → ComparesMatches firsts nexts reverse-firsts reverse-nexts c letters work list work′ list′ r
+  unfolding zeroed comparedOf
   compare-7 h er ew el =
       record {
-        outcome = λ hit columns d.
-            let e = counted c eb n hit columns d .1 in
-            outcome-path (er ∙ ap (refusal 7 0) e) ew el ∙ table-7 c (matchesTo hit columns (length firsts)) (length firsts) work list (omega arith);
+        outcome = λ forward reverse f r.
+            let e = needed c eb n f r in
+            outcome-path (er ∙ ap (refusal 7 0) e) ew el ∙ sym (compares-7 _ _ _ _ work list (omega arith));
       }
 
   module _ (work₁ : List ℕ) {list₁ : List ℕ} {listed : ℕ} (h : counts .widest ≤ workHolds work) (lw : length work₁ ≡ length work) (ll : length list₁ ≡ length list)
-      (a : Lists firsts nexts (counts .widest) c list₁ listed) where
+      (a : ListsBoth firsts nexts reverse-firsts reverse-nexts (counts .widest) c letters list₁ listed) where
     pub compare-8 : {work′ list′ : List ℕ} {r : Answer} → listHolds list₁ < listed → r ≡ refusal 8 0 listed → work′ ≡ zeros work₁ → list′ ≡ zeros list₁
-        → ComparesMatches firsts nexts c work list work′ list′ r
-    unfolding zeroed listingOf
+        → ComparesMatches firsts nexts reverse-firsts reverse-nexts c letters work list work′ list′ r
+    unfolding zeroed comparedOf
     compare-8 g er ew el =
         record {
-          outcome = λ hit columns d.
-              let e = counted c eb n hit columns d .1 in
-              let z = a .entered hit columns d e .counted in
+          outcome = λ forward reverse f r.
+              let e = needed c eb n f r in
+              let z = a .entered forward reverse f r (le-of-eq (sym e)) .counted in
               let s = holds-same list₁ list ll in
               outcome-path (er ∙ ap (refusal 8 0) z) (ew ∙ zeros-same work₁ work lw) (el ∙ zeros-same list₁ list ll)
-              ∙ table-8 c (matchesTo hit columns (length firsts)) (length firsts) work list (omega arith) (omega arith);
+              ∙ sym (compares-8 _ _ _ _ work list (omega arith) (omega arith));
         }
 
-    pub compare-0 : {work′ list′ : List ℕ} {r : Answer} {links : ℕ} → listed ≤ listHolds list₁ → Linked firsts nexts b links
-        → r ≡ doneWith listed (counts .matches) (counts .widest) links → work′ ≡ zeros work₁ → list′ ≡ take (5 * listed) list₁ ++ replicate (length list₁ - 5 * listed) 0
-        → ComparesMatches firsts nexts c work list work′ list′ r
-    unfolding doneWith listingOf thenZeros
+    pub compare-0 : {work′ list′ : List ℕ} {r : Answer} {links : ℕ} → listed ≤ listHolds list₁ → LinksBoth firsts nexts reverse-firsts reverse-nexts b links
+        → r ≡ done listed (counts .matches) (counts .widest) links → work′ ≡ zeros work₁ → list′ ≡ take (6 * listed) list₁ ++ replicate (length list₁ - 6 * listed) 0
+        → ComparesMatches firsts nexts reverse-firsts reverse-nexts c letters work list work′ list′ r
+    unfolding done thenZeros comparedOf
     compare-0 {work′} {list′} {r} {links} g l er ew el = record { outcome = go }
       where
-        go : (hit : Cell → Bool) (columns : ℕ) → Described hit columns firsts nexts
-            → _≡_ {A = Outcome} (record { answer = r; work = work′; list = list′ }) (comparedOf c (matchesTo hit columns (length firsts)) (length firsts) work list)
-        go hit columns d =
-            let cells = matchesTo hit columns (length firsts) in
-            let n = counted c eb n hit columns d in
-            let v = a .entered hit columns d (n .1) in
-            let s = holds-same list₁ list ll in
-            let k : links ≡ pairs (c .b) cells = l .exact hit columns d ∙ ap (λ (q : ℕ). pairs q cells) eb in
+        go : (forward reverse : List Cell) → WalkTo firsts nexts forward → WalkTo reverse-firsts reverse-nexts reverse
+            → _≡_ {A = Outcome} (record { answer = r; work = work′; list = list′ }) (comparedOf c letters forward (length firsts) reverse (length reverse-firsts) work list)
+        go forward reverse f r =
+            let all = entriesOf c letters forward reverse in
+            let m = n .exact forward reverse f r .0 in
+            let w = needed c eb n f r in
+            let v = a .entered forward reverse f r (le-of-eq (sym w)) in
+            let k : links ≡ pairs (c .b) forward + pairs (c .b) reverse = l .exact forward reverse f r ∙ ap (λ (q : ℕ). pairs q forward + pairs q reverse) eb in
             let z = v .counted in
-            let fits : 5 * listed ≤ length list₁ = room-for list₁ listed g in
-            let answer : doneWith listed (counts .matches) (counts .widest) links ≡ doneWith (length (listingOf c cells)) (length cells) (largestRun (c .b) cells (length firsts)) (pairs (c .b) cells) =
-            λ i. doneWith (z i) (n .0 i) (n .1 i) (k i) in
-            let entries = v .entries fits in
-            let size : length (laid (entryNumbers (c .k)) (listingOf c cells)) ≡ 5 * listed = ap length (sym entries) ∙ length-take-le (5 * listed) list₁ fits in
-            let rest : length list₁ - 5 * listed ≡ length list - length (laid (entryNumbers (c .k)) (listingOf c cells)) = omega arith in
+            let s = holds-same list₁ list ll in
+            let fits : 6 * listed ≤ length list₁ = room-for list₁ listed g in
+            let answer : done listed (counts .matches) (counts .widest) links
+            ≡ done (length all) (length forward + length reverse) (largerOf (c .b) forward (length firsts) reverse (length reverse-firsts)) (pairs (c .b) forward + pairs (c .b) reverse) =
+            λ i. done (z i) (m i) (w i) (k i) in
+            let front = v .entries fits in
+            let size : length (laid (λ entry. entry) all) ≡ 6 * listed = ap length (sym front) ∙ length-take-le (6 * listed) list₁ fits in
+            let rest : length list₁ - 6 * listed ≡ length list - length (laid (λ entry. entry) all) = omega arith in
             outcome-path (er ∙ answer) (ew ∙ zeros-same work₁ work lw)
-            (el ∙ ap (λ (q : List ℕ). q ++ replicate (length list₁ - 5 * listed) 0) entries ∙ ap (λ (q : ℕ). laid (entryNumbers (c .k)) (listingOf c cells) ++ replicate q 0) rest)
-            ∙ table-0 c cells (length firsts) work list (omega (arith, n .1)) (omega arith)
+            (el ∙ ap (λ (q : List ℕ). q ++ replicate (length list₁ - 6 * listed) 0) front ∙ ap (λ (q : ℕ). laid (λ entry. entry) all ++ replicate q 0) rest)
+            ∙ sym (compares-0 _ _ _ _ work list (omega arith) (omega arith))
 
 -- ---- the stopped sweep
 
 module _ {firsts nexts : List ℕ} {c : Settings} {work : List ℕ} {row b : ℕ} (eb : b ≡ c .b) {counts : Counts} (n : Counted firsts nexts b counts) where
   pub stopped-7 : {work′ : List ℕ} {r : Answer} → workHolds work < counts .widest → r ≡ refusal 7 0 (counts .widest) → work′ ≡ zeros work → StopsMatches firsts nexts c row work work′ r
-  unfolding zeroed zeros
+  unfolding zeroed zeros stoppedOf
   stopped-7 h er ew =
       record {
         outcome = λ hit columns d.
             let e = counted c eb n hit columns d .1 in
-            outcome-path (er ∙ ap (refusal 7 0) e) ew refl ∙ stop-7 c (matchesTo hit columns (length firsts)) (length firsts) work row (omega arith);
+            outcome-path (er ∙ ap (refusal 7 0) e) ew refl ∙ sym (stops-7 _ _ _ _ _ work row (omega arith));
       }
 
   pub stopped-19 : {work′ : List ℕ} {r : Answer} → counts .widest ≤ workHolds work → length firsts < row → r ≡ refusal 19 0 (length firsts) → work′ ≡ zeros work
       → StopsMatches firsts nexts c row work work′ r
-  unfolding zeroed zeros
+  unfolding zeroed zeros stoppedOf
   stopped-19 h g er ew =
       record {
         outcome = λ hit columns d.
             let e = counted c eb n hit columns d .1 in
-            outcome-path er ew refl ∙ stop-19 c (matchesTo hit columns (length firsts)) (length firsts) work row (omega arith) g;
+            outcome-path er ew refl ∙ sym (stops-19 _ _ _ _ _ work row (omega arith) g);
       }
 
   pub stopped-0 : {work′ : List ℕ} {r : Answer} {held links : ℕ} → counts .widest ≤ workHolds work → row ≤ length firsts
-      → Holds firsts nexts (counts .widest) c row work work′ held → Linked firsts nexts b links → r ≡ doneWith held (counts .matches) (counts .widest) links
+      → Holds firsts nexts (counts .widest) c row work work′ held → Linked firsts nexts b links → r ≡ done held (counts .matches) (counts .widest) links
       → StopsMatches firsts nexts c row work work′ r
-  unfolding doneWith
+  unfolding done stoppedOf
   stopped-0 {work′} {r} {held} {links} h g a l er = record { outcome = go }
     where
       go : (hit : Cell → Bool) (columns : ℕ) → Described hit columns firsts nexts
@@ -272,6 +211,6 @@ module _ {firsts nexts : List ℕ} {c : Settings} {work : List ℕ} {row b : ℕ
           let m = counted c eb n hit columns d in
           let v = a .held hit columns d (m .1) in
           let k : links ≡ pairs (c .b) cells = l .exact hit columns d ∙ ap (λ (q : ℕ). pairs q cells) eb in
-          let answer : doneWith held (counts .matches) (counts .widest) links ≡ doneWith (length (runOf c cells row)) (length cells) (largestRun (c .b) cells (length firsts)) (pairs (c .b) cells) =
-          λ i. doneWith (v .0 i) (m .0 i) (m .1 i) (k i) in
-          outcome-path (er ∙ answer) (v .1) refl ∙ stop-0 c cells (length firsts) work row (omega (arith, m .1)) g
+          let answer : done held (counts .matches) (counts .widest) links ≡ done (length (runOf c cells row)) (length cells) (largestRun (c .b) cells (length firsts)) (pairs (c .b) cells) =
+          λ i. done (v .0 i) (m .0 i) (m .1 i) (k i) in
+          outcome-path (er ∙ answer) (v .1) refl ∙ sym (stops-0 _ _ _ _ _ work row (omega (arith, m .1)) g)

@@ -1,35 +1,23 @@
 -- W and the run of a row, for all rows and for the first r of them: where W is 0 there is no match, and fewer rows need no more room. Assumes nothing.
-use mathlib.Core.Path.{_≡_, refl, sym, ap, subst, subst⁻¹, _∙_}
+use mathlib.Core.Path.{_≡_, refl, sym, ap, subst⁻¹, _∙_}
 use mathlib.Core.Bool.{Bool}
-use mathlib.Core.List.{List, [], _∷_, List·Memᴰ, List·Memᴰ·head, List·Memᴰ·tail}
+use mathlib.Core.List.{List, [], List·Memᴰ}
 use Prim.Native.Nat.{ℕ, zero, suc, _+_, _-_, _%_, _^_, _≤_, _<_, zero-le}
 use native.Mathlib.Omega.{arith}
 use native.Mathlib.Nat.{le-refl, mod-lt, mod-self, mod-add-mod}
-use lib.Dec.{T}
 use Rattle.rules.specs.declared.Cell.{Cell}
 use Rattle.rules.specs.declared.Record.{Record}
 use Rattle.rules.specs.Lists.{keep, count, largestTo}
-use Rattle.rules.specs.Matches.{cell, matchesTo}
+use Rattle.rules.specs.Matches.{matchesTo}
 use Rattle.rules.specs.Records.{recordsFrom}
 use Rattle.rules.specs.Rooms.{inRun, largestRun}
-use Rattle.rules.proofs.Tests.{tests, by-test}
+use Rattle.rules.proofs.Tests.{tests}
 use Rattle.rules.proofs.ListLaws.{keep-none, count-append, largestTo-ge}
-use Rattle.rules.proofs.MatchList.{matches-in}
 use Rattle.rules.proofs.Sweeps.{swept-rows, swept-all, matches-split, held-window}
 use Rattle.predecessors.specs.Numbers.{slotOf}
 use Rattle.jobs.specs.Jobs.{RingFrom}
 
 -- ---- W
-
-count-some : {A : Type 0} (f : A → Bool) (xs : List A) (x : A) → List·Memᴰ x xs → T (f x) → 1 ≤ count f xs
-unfolding count
-count-some {A} f xs x (List·Memᴰ·head {x = y} {xs = ys} e) t =
-    by-test (λ (n : ℕ). 1 ≤ count f ys + n) (f y) 1 0 (λ _. omega arith) (λ k. absurd (k (subst (λ (z : A). T (f z)) e t)))
-count-some f xs x (List·Memᴰ·tail {x = y} {xs = ys} m) t = let h = count-some f ys x m t in omega arith
-
-empty : {A : Type 0} (xs : List A) → ((x : A) → List·Memᴰ x xs → ⊥) → xs ≡ []
-empty [] h = refl
-empty (x ∷ xs) h = absurd (h x (List·Memᴰ·head refl))
 
 largestTo-mono : (f g : ℕ → ℕ) (m n : ℕ) → m ≤ n → ((i : ℕ) → 1 ≤ i → i ≤ m → f i ≤ g i) → largestTo f m ≤ largestTo g n
 unfolding largestTo
@@ -41,17 +29,6 @@ largestTo-mono f g (suc m) n h k =
     omega arith
 
 module _ (b : ℕ) (hit : Cell → Bool) (columns rows : ℕ) where
-  -- a match is in the run of its own row
-  pub none-needed : largestRun b (matchesTo hit columns rows) rows ≡ 0 → matchesTo hit columns rows ≡ []
-  unfolding largestRun inRun
-  none-needed e = empty (matchesTo hit columns rows) (λ y m. none y m (matches-in hit columns rows y m .row-from) (matches-in hit columns rows y m .row-to))
-    where
-      none : (y : Cell) → List·Memᴰ y (matchesTo hit columns rows) → 1 ≤ y .row → y .row ≤ rows → ⊥
-      none y m h g =
-          let k = count-some (inRun b (y .row)) (matchesTo hit columns rows) y m (simp (inRun, tests) (omega arith, omega arith)) in
-          let l = largestTo-ge (λ i. count (inRun b i) (matchesTo hit columns rows)) rows (y .row) h g in
-          omega arith
-
   -- fewer rows need no more
   pub fewer-rows : (r : ℕ) → r ≤ rows → largestRun b (matchesTo hit columns r) r ≤ largestRun b (matchesTo hit columns rows) rows
   unfolding largestRun

@@ -8,14 +8,16 @@ use Rattle.rules.specs.declared.Answer.{Answer}
 use Rattle.rules.specs.declared.Cell.{Cell}
 use Rattle.rules.specs.Answers.{Outcome}
 use Rattle.matches.specs.Walks.{Described}
+use Rattle.strands.specs.Strands.{WalkTo}
 use Rattle.jobs.specs.Jobs.{ComparesMatches, StopsMatches}
 
-module _ {hit : Cell → Bool} {columns : ℕ} {firsts nexts : List ℕ} (d : Described hit columns firsts nexts) {c : Settings} where
-  pub compares-one : {work list work₁ list₁ work₂ list₂ : List ℕ} {r s : Answer} → ComparesMatches firsts nexts c work list work₁ list₁ r
-      → ComparesMatches firsts nexts c work list work₂ list₂ s
-      → _≡_ {A = Outcome} (record { answer = r; work = work₁; list = list₁ }) (record { answer = s; work = work₂; list = list₂ })
-  compares-one a b = a .outcome hit columns d ∙ sym (b .outcome hit columns d)
+pub compares-one : {firsts nexts reverse-firsts reverse-nexts : List ℕ} {forward reverse : List Cell} → WalkTo firsts nexts forward → WalkTo reverse-firsts reverse-nexts reverse
+    → {c : Settings} {letters : ℕ} {work list work₁ list₁ work₂ list₂ : List ℕ} {r s : Answer}
+    → ComparesMatches firsts nexts reverse-firsts reverse-nexts c letters work list work₁ list₁ r → ComparesMatches firsts nexts reverse-firsts reverse-nexts c letters work list work₂ list₂ s
+    → _≡_ {A = Outcome} (record { answer = r; work = work₁; list = list₁ }) (record { answer = s; work = work₂; list = list₂ })
+compares-one {forward = forward} {reverse = reverse} f t a b = a .outcome forward reverse f t ∙ sym (b .outcome forward reverse f t)
 
-  pub stops-one : {row : ℕ} {work work₁ work₂ : List ℕ} {r s : Answer} → StopsMatches firsts nexts c row work work₁ r → StopsMatches firsts nexts c row work work₂ s
-      → _≡_ {A = Outcome} (record { answer = r; work = work₁; list = [] }) (record { answer = s; work = work₂; list = [] })
-  stops-one a b = a .outcome hit columns d ∙ sym (b .outcome hit columns d)
+pub stops-one : {hit : Cell → Bool} {columns : ℕ} {firsts nexts : List ℕ} → Described hit columns firsts nexts → {c : Settings} {row : ℕ} {work work₁ work₂ : List ℕ} {r s : Answer}
+    → StopsMatches firsts nexts c row work work₁ r → StopsMatches firsts nexts c row work work₂ s
+    → _≡_ {A = Outcome} (record { answer = r; work = work₁; list = [] }) (record { answer = s; work = work₂; list = [] })
+stops-one {hit} {columns} d a b = a .outcome hit columns d ∙ sym (b .outcome hit columns d)

@@ -4,10 +4,11 @@ use rules::Answer;
 use rules::Settings;
 use tally::Counts;
 ghost use mathlib.Core.Path.{_≡_};
-ghost use Prim.Native.Nat.{_+_, _-_, _*_, _^_, _≤_, _<_};
+ghost use Prim.Native.Nat.{_-_, _*_, _^_, _≤_, _<_};
 ghost use lib.ListN.{length};
-ghost use Rattle.matches.specs.Walks.{WalkSafe};
-ghost use Rattle.jobs.specs.Jobs.{doneWith, Walked, Lists, Holds, RingFrom, ComparesMatches, StopsMatches};
+ghost use Rattle.rules.specs.Answers.{done as doneWith};
+ghost use Rattle.strands.specs.Strands.{Walked};
+ghost use Rattle.jobs.specs.Jobs.{Holds, RingFrom, ComparesMatches, StopsMatches};
 
 fn done(listed: usize, counts: Counts, links: u64) -> Answer
     ensures { λ r. ⌜ r ≡ doneWith listed (counts .matches) (counts .widest) links ⌝ }
@@ -23,57 +24,49 @@ fn done(listed: usize, counts: Counts, links: u64) -> Answer
     }
 }
 
-// Sweeps all rows over W slots of work room and lists what is listed; returns how many entries there are, also where the list room is too short.
-fn list_matches(
-    firsts: &[u32],
-    nexts: &[u32],
-    widest: usize,
-    c: Settings,
-    work: &mut [u32],
-    list: &mut [u32],
-) -> usize
-    requires { ⌜ Walked (now firsts) (now nexts) c ⌝ }
-    requires { ⌜ 8 * widest ≤ length (now work) ⌝ }
-    requires { ⌜ widest < 2 ^ 32 ⌝ }
-    ensures { λ r. ⌜ Lists (now (firsts .entry)) (now (nexts .entry)) widest c (now (list .exit)) r ⌝ }
-{
-    if widest == 0 {
-        return 0;
-    }
-    let ring = Ring {
-        size: widest,
-        origin: 0,
-    };
-    sweep::list_all(firsts, nexts, work, ring, c, list)
-}
-
-// Checks 7 and 8 and the listing. The links cost a range sum of b + 1 counts a match, all else at most a row's columns a row.
+// Checks 7 and 8 and the listing, over both strands of a second sequence of so many letters. The links cost a range sum of b + 1 counts a match, all else
+// at most a row's columns a row.
 pub fn compare_matches(
     firsts: &[u32],
     nexts: &[u32],
+    reverse_firsts: &[u32],
+    reverse_nexts: &[u32],
     c: Settings,
+    letters: u32,
     work: &mut [u32],
     list: &mut [u32],
 ) -> Answer
     requires { ⌜ Walked (now firsts) (now nexts) c ⌝ }
-    ensures { λ r. ⌜ ComparesMatches (now (firsts .entry)) (now (nexts .entry)) c (now (work .entry)) (now (list .entry)) (now (work .exit)) (now (list .exit)) r ⌝ }
+    requires { ⌜ Walked (now «reverse_firsts») (now «reverse_nexts») c ⌝ }
+    requires { ⌜ letters ≤ 16384 ⌝ }
+    ensures { λ r. ⌜ ComparesMatches (now (firsts .entry)) (now (nexts .entry)) (now («reverse_firsts» .entry)) (now («reverse_nexts» .entry)) c letters (now (work .entry)) (now (list .entry)) (now (work .exit)) (now (list .exit)) r ⌝ }
 {
     let b = casts::wide(c.b);
-    let counts = tally::count_matches(firsts, nexts, b);
-    let widest = counts.widest;
-    if rooms::record_count(work) < widest {
+    let counts = strands::count_strands(firsts, nexts, reverse_firsts, reverse_nexts, b);
+    let slots = counts.widest;
+    if rooms::record_count(work) < slots {
         rooms::zero_all(work);
         rooms::zero_all(list);
-        return prepare::refuse(7, 0, widest as u64);
+        return prepare::refuse(7, 0, slots as u64);
     }
-    let listed = list_matches(firsts, nexts, widest, c, work, list);
+    let listed = strands::list_strands(
+        firsts,
+        nexts,
+        reverse_firsts,
+        reverse_nexts,
+        slots,
+        c,
+        letters,
+        work,
+        list,
+    );
     rooms::zero_all(work);
     if rooms::entry_count(list) < listed {
         rooms::zero_all(list);
         return prepare::refuse(8, 0, listed as u64);
     }
     rooms::zero_after_entries(list, listed);
-    let links = tally::count_links(firsts, nexts, b);
+    let links = strands::link_strands(firsts, nexts, reverse_firsts, reverse_nexts, b);
     done(listed, counts, links)
 }
 
@@ -128,7 +121,7 @@ fn hold(
     sweep::hold_run(&firsts[..row], nexts, work, ring, c)
 }
 
-// Checks 7 and 19 and the run of a row.
+// Checks 7 and 19 and the run of a row, on one strand.
 pub fn stop_matches(
     firsts: &[u32],
     nexts: &[u32],

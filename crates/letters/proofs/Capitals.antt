@@ -7,7 +7,7 @@ use lib.ListN.{getD}
 use borrow.Author.Tests.{lt-ltb, le-ltb}
 use Rattle.rules.specs.Letters.{codeOf}
 use Rattle.letters.specs.Capitals.{capitalCodes}
-use Rattle.letters.proofs.Computed.{at-each}
+use Rattle.rules.proofs.Computed.{at-each}
 
 -- the code of a byte as the table has it: none below A, none above Z
 unfoldable looked : ℕ → ℕ

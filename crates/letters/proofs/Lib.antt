@@ -1,5 +1,4 @@
-pub mod Computed
 pub mod Capitals
-pub mod Inverse
+pub mod Complements
 pub mod Searching
 pub mod FirstBad

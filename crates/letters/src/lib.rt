@@ -1,6 +1,9 @@
-// The fifteen letters and their codes.
+// The fifteen letters, their codes and their complements.
 ghost use mathlib.Core.Path.{_≡_};
-ghost use Rattle.rules.specs.Letters.{letterOf, codeOf, badPlace};
+ghost use mathlib.Core.List.{_++_};
+ghost use Prim.Native.Nat.{_≤_};
+ghost use lib.ListN.{length, drop};
+ghost use Rattle.rules.specs.Letters.{letterTable, letterOf, codeOf, badPlace, reversedBits, complement, reverseComplement};
 ghost use Rattle.letters.specs.Capitals.{capitalCodes};
 
 // The letter of each code. Code 0 has none.
@@ -95,4 +98,34 @@ pub fn bad_place(s: &[u8]) -> usize
         passed += 1;
     }
     0
+}
+
+// The complement of a code: its four bits in reverse order.
+pub fn reversed_bits(code: u8) -> u8
+    ensures { λ r. ⌜ r ≡ reversedBits code ⌝ }
+{
+    ((code & 1) << 3) | ((code & 2) << 1) | ((code >> 1) & 2) | ((code >> 3) & 1)
+}
+
+// The complement of a letter, 0 of a byte that is none, read in tables that the caller laid out.
+fn complement_in(codes: &[u8; 26], letters: &[u8; 16], letter: u8) -> u8
+    requires { ⌜ now codes ≡ capitalCodes ⌝ }
+    requires { ⌜ now letters ≡ letterTable ⌝ }
+    ensures { λ r. ⌜ r ≡ complement letter ⌝ }
+{
+    letters[reversed_bits(code_in(codes, letter)) as usize]
+}
+
+// Writes the reverse complement of a sequence in front of a lent slice. One step a letter.
+pub fn reverse_complement(s: &[u8], out: &mut [u8])
+    requires { ⌜ length (now s) ≤ length (now out) ⌝ }
+    ensures { λ _. ⌜ now (out .exit) ≡ reverseComplement (now (s .entry)) ++ drop (length (now (s .entry))) (now (out .entry)) ⌝ }
+{
+    let codes = CODES;
+    let letters = LETTERS;
+    let mut turned: usize = 0;
+    while turned < s.len() {
+        out[turned] = complement_in(&codes, &letters, s[s.len() - 1 - turned]);
+        turned += 1;
+    }
 }

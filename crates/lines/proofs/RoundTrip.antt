@@ -8,7 +8,7 @@ use lib.Dec.{eqb, eqb→eq}
 use lib.ListN.{length, take, length-append}
 use lib.Seq.{take-at}
 use borrow.Author.Tests.{lt-ltb, le-leb, eq-eqb}
-use Rattle.letters.proofs.Computed.{at-each}
+use Rattle.rules.proofs.Computed.{at-each}
 use Rattle.lines.specs.Digits.{digitOf, nibbleOf, digitsOf, closed, isLine, bytesIn}
 use Rattle.lines.specs.Writing.{checkOf, frameOf, lineOf}
 use Rattle.lines.specs.Reading.{frameFrom, frameIn}

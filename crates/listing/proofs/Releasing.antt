@@ -1,15 +1,15 @@
 -- Releasing record by record: the records left behind are old, and those of them that are listed stand in the list room in order. Assumes nothing.
-use mathlib.Core.Path.{_≡_, refl, sym, ap, subst, subst⁻¹, _∙_}
+use mathlib.Core.Path.{_≡_, refl, sym, ap, subst⁻¹, _∙_}
 use mathlib.Core.Bool.{Bool, true, false, cond}
 use mathlib.Core.List.{List, [], _∷_, _++_, append-nil}
-use Prim.Native.Nat.{ℕ, suc, _+_, _-_, _*_, _/_, _^_, _≤_, _<_}
+use Prim.Native.Nat.{ℕ, _+_, _-_, _*_, _/_, _^_, _≤_, _<_}
 use native.Mathlib.Omega.{arith}
 use native.Mathlib.Nat.{le-refl}
 use native.Mathlib.Numerals.{add-one}
 use borrow.Author.Tests.{lt-ltb, le-ltb}
 use lib.Dec.{ltb}
 use lib.ListN.{length, take, drop, length-append}
-use lib.Seq.{sets, sets-eq, length-sets, take-suc, take-at, length-take-le}
+use lib.Seq.{sets-eq, length-sets, take-suc, take-at, length-take-le}
 use Rattle.rules.specs.declared.Settings.{Settings}
 use Rattle.rules.specs.declared.Cell.{Cell}
 use Rattle.rules.specs.declared.Record.{Record}
@@ -30,17 +30,17 @@ use Rattle.listing.proofs.Closing.{passes-listed}
 -- ---- one record more
 
 -- an entry put behind n others stands behind them
-put-behind : (list : List ℕ) (n k : ℕ) (x : Record) → 5 * n + 5 ≤ length list → take (5 * (n + 1)) (putEntry list n k x) ≡ take (5 * n) list ++ entryIn32 k x
+put-behind : (list : List ℕ) (n k : ℕ) (x : Record) → 6 * n + 6 ≤ length list → take (6 * (n + 1)) (putEntry list n k x) ≡ take (6 * n) list ++ entryIn32 k x
 unfolding putEntry
 put-behind list n k x h =
     let vs = entryIn32 k x in
-    let front = take (5 * n) list ++ vs in
-    let l : length front ≡ 5 * (n + 1) = omega (arith, length-take-le (5 * n) list (omega arith), length-append (take (5 * n) list) vs) in
-    ap (λ (t : List ℕ). take (5 * (n + 1)) t) (sets-eq vs list (5 * n) h) ∙ take-at front (drop (5 * n + 5) list) (5 * (n + 1)) l
+    let front = take (6 * n) list ++ vs in
+    let l : length front ≡ 6 * (n + 1) = omega (arith, length-take-le (6 * n) list (omega arith), length-append (take (6 * n) list) vs) in
+    ap (λ (t : List ℕ). take (6 * (n + 1)) t) (sets-eq vs list (6 * n) h) ∙ take-at front (drop (6 * n + 6) list) (6 * (n + 1)) l
 
 put-length : (list : List ℕ) (n k : ℕ) (x : Record) → length (putEntry list n k x) ≡ length list
 unfolding putEntry
-put-length list n k x = length-sets list (5 * n) (entryIn32 k x)
+put-length list n k x = length-sets list (6 * n) (entryIn32 k x)
 
 room-length : (pass : Bool) (k : ℕ) (x : Record) (list : List ℕ) (n : ℕ) → length (listedRoom pass k x list n) ≡ length list
 unfolding listedRoom
@@ -93,14 +93,14 @@ module _ (c : Settings) (cells : List Cell) (front : List Record) (list : List �
         entries = λ h. entered k h;
       }
     where
-      entered : keep (isListed c cells) (front ++ (x ∷ [])) ≡ keep (isListed c cells) front ++ (x ∷ []) → 5 * (n + 1) ≤ length (listedRoom true (c .k) x list n)
-          → take (5 * (n + 1)) (listedRoom true (c .k) x list n) ≡ laid (entryNumbers (c .k)) (keep (isListed c cells) (front ++ (x ∷ [])))
+      entered : keep (isListed c cells) (front ++ (x ∷ [])) ≡ keep (isListed c cells) front ++ (x ∷ []) → 6 * (n + 1) ≤ length (listedRoom true (c .k) x list n)
+          → take (6 * (n + 1)) (listedRoom true (c .k) x list n) ≡ laid (entryNumbers (c .k)) (keep (isListed c cells) (front ++ (x ∷ [])))
       entered k h =
           let l = room-length true (c .k) x list n in
-          let fits : 5 * n + 5 ≤ length list = omega arith in
-          let room : n < length list / 5 = omega arith in
-          let yes : ltb n (length list / 5) ≡ true = lt-ltb n (length list / 5) room in
-          ap (λ (t : Bool). take (5 * (n + 1)) (cond t (putEntry list n (c .k) x) list)) yes
+          let fits : 6 * n + 6 ≤ length list = omega arith in
+          let room : n < length list / 6 = omega arith in
+          let yes : ltb n (length list / 6) ≡ true = lt-ltb n (length list / 6) room in
+          ap (λ (t : Bool). take (6 * (n + 1)) (cond t (putEntry list n (c .k) x) list)) yes
           ∙ put-behind list n (c .k) x fits
           ∙ ap (λ (t : List ℕ). t ++ entryIn32 (c .k) x) (v .entries (omega arith))
           ∙ ap (λ (t : List ℕ). laid (entryNumbers (c .k)) (keep (isListed c cells) front) ++ t) (entry-fits (c .k) x base row column)

@@ -48,7 +48,7 @@ listedRoom pass k x list n = cond pass (cond (ltb n (listHolds list)) (putEntry 
 -- of the records released, so many are listed, and where the list room holds them all, their entries stand at its front
 pub record ListedTo (c : Settings) (cells : List Cell) (released : List Record) (list : List ℕ) (n : ℕ) : Type 0 where
   pub counted : n ≡ length (keep (isListed c cells) released)
-  pub entries : 5 * n ≤ length list → take (5 * n) list ≡ laid (entryNumbers (c .k)) (keep (isListed c cells) released)
+  pub entries : 6 * n ≤ length list → take (6 * n) list ≡ laid (entryNumbers (c .k)) (keep (isListed c cells) released)
 
 -- what releasing asks to be safe
 pub record ReleaseSafe (room : List ℕ) (ring : Ring) (tail head : ℕ) (c : Settings) (listed : ℕ) : Type 0 where

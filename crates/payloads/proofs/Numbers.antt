@@ -10,7 +10,7 @@ use lib.ListN.{length, getD, set, length-append, length-set}
 use lib.Seq.{sets, set-comm, getD-append-add}
 use lib.Bits.{bitAnd, and-mask}
 use lib.Pow.{pow-add}
-use Rattle.letters.proofs.Computed.{at-each}
+use Rattle.rules.proofs.Computed.{at-each}
 use Rattle.lines.proofs.RoundTrip.{Bytes, none, more, bytes-append}
 use Rattle.payloads.specs.Numbers.{numberBytes, numberAt}
 

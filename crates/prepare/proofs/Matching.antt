@@ -28,6 +28,11 @@ pub places-few : (k : ℕ) (s : List ℕ) → 1 ≤ k → length s ≤ 16384 →
 unfolding places
 places-few k s h l = omega arith
 
+-- the rows are the places of the first sequence
+pub row-count : (c : Settings) (s : List ℕ) {rows k : ℕ} → rows ≡ suc (length s) - k → k ≡ c .k → rows ≡ places (c .k) s
+unfolding places
+row-count c s e d = e ∙ ap (λ (q : ℕ). suc (length s) - q) d
+
 module _ (c : Settings) (s t : List ℕ) (ok : Accepted c s t) (firsts₀ nexts₀ firsts nexts : List ℕ) (bf : Blank firsts₀) (bn : Blank nexts₀)
     (f : FirstColumns (codes (c .k) s) (codes (c .k) t) (c .a) firsts₀ firsts) (n : NextColumns (codes (c .k) t) nexts₀ nexts) where
   abbrev rows : ℕ

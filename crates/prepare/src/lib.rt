@@ -2,10 +2,9 @@
 use rules::Answer;
 use rules::Settings;
 ghost use mathlib.Core.Path.{_≡_};
-ghost use Prim.Native.Nat.{_≤_};
-ghost use lib.ListN.{length};
 ghost use Rattle.rules.specs.Answers.{refusal, outside, checked};
-ghost use Rattle.prepare.specs.Prepared.{Accepted, Blank, Matched};
+ghost use Rattle.rules.specs.Strands.{onStrand};
+ghost use Rattle.prepare.specs.Prepared.{Accepted, Blank, Matched, SecondMatched};
 
 // The answer of a refusal: all four tallies are 0. Number 0 refuses nothing.
 pub fn refuse(number: u64, sequence: u64, detail: u64) -> Answer
@@ -31,7 +30,7 @@ fn is_outside(low: u32, high: u32, n: u32) -> bool
     high < n
 }
 
-// Checks 1 to 6: the first that applies, or number 0. One step a letter.
+// Checks 1 to 6, with 9 after 4: the first that applies, or number 0. One step a letter.
 pub fn check(c: Settings, first: &[u8], second: &[u8]) -> Answer
     ensures { λ r. ⌜ r ≡ checked c (now (first .entry)) (now (second .entry)) ⌝ }
 {
@@ -46,6 +45,9 @@ pub fn check(c: Settings, first: &[u8], second: &[u8]) -> Answer
     }
     if is_outside(0, 16384, c.m) {
         return refuse(4, 0, 0);
+    }
+    if is_outside(0, 1, c.strand) {
+        return refuse(9, 0, 0);
     }
     if 16384 < first.len() {
         return refuse(5, 1, 0);
@@ -86,4 +88,57 @@ pub fn match_up(c: Settings, first: &[u8], second: &[u8], firsts: &mut [u32], ne
         firsts,
         nexts,
     );
+}
+
+// The matches of the first sequence and the reverse complement of the second, in the same way. The array holds letters.
+fn match_up_reverse(c: Settings, first: &[u8], second: &[u8], firsts: &mut [u32], nexts: &mut [u32])
+    requires { ⌜ Accepted c (now first) (now second) ⌝ }
+    requires { ⌜ Blank (now firsts) ⌝ }
+    requires { ⌜ Blank (now nexts) ⌝ }
+    ensures { λ _. ⌜ Matched c (now (first .entry)) (onStrand 1 (now (second .entry))) (now (firsts .exit)) (now (nexts .exit)) ⌝ }
+{
+    let mut turned = [0u8; 16384];
+    letters::reverse_complement(second, &mut turned);
+    match_up(c, first, &turned[..second.len()], firsts, nexts);
+}
+
+// The matches of one strand, 0 forward or 1 reverse, as the settings name it.
+pub fn match_up_strand(
+    c: Settings,
+    first: &[u8],
+    second: &[u8],
+    firsts: &mut [u32],
+    nexts: &mut [u32],
+)
+    requires { ⌜ Accepted c (now first) (now second) ⌝ }
+    requires { ⌜ Blank (now firsts) ⌝ }
+    requires { ⌜ Blank (now nexts) ⌝ }
+    ensures { λ _. ⌜ Matched c (now (first .entry)) (onStrand (c .strand) (now (second .entry))) (now (firsts .exit)) (now (nexts .exit)) ⌝ }
+{
+    if c.strand == 0 {
+        match_up(c, first, second, firsts, nexts);
+        return;
+    }
+    match_up_reverse(c, first, second, firsts, nexts);
+}
+
+// The matches of the reverse strand where the settings ask for both; returns how many rows there are to walk, and none where they ask for the forward
+// strand alone.
+pub fn match_up_second(
+    c: Settings,
+    first: &[u8],
+    second: &[u8],
+    firsts: &mut [u32],
+    nexts: &mut [u32],
+) -> usize
+    requires { ⌜ Accepted c (now first) (now second) ⌝ }
+    requires { ⌜ Blank (now firsts) ⌝ }
+    requires { ⌜ Blank (now nexts) ⌝ }
+    ensures { λ r. ⌜ SecondMatched c (now (first .entry)) (now (second .entry)) (now (firsts .exit)) (now (nexts .exit)) r ⌝ }
+{
+    if c.strand == 0 {
+        return 0;
+    }
+    match_up_reverse(c, first, second, firsts, nexts);
+    kmers::places(first.len(), casts::wide(c.k))
 }

@@ -1,7 +1,7 @@
 -- The lines written for a job are its whole output. Assumes nothing.
 use mathlib.Core.Path.{_≡_, sym, ap, subst⁻¹, _∙_}
 use mathlib.Core.Bool.{true}
-use mathlib.Core.List.{List, _++_, map}
+use mathlib.Core.List.{List, [], _++_}
 use Prim.Native.Nat.{ℕ, _+_, _-_, _*_, _≤_, _<_}
 use native.Mathlib.Omega.{arith}
 use borrow.Author.Tests.{lt-ltb, eq-eqb, ne-eqb}
@@ -10,9 +10,10 @@ use lib.ListN.{length, getD, drop, replicate, length-append, length-drop, length
 use Rattle.rules.specs.declared.Settings.{Settings}
 use Rattle.rules.specs.declared.Answer.{Answer}
 use Rattle.rules.specs.Lists.{laid, thenZeros}
-use Rattle.rules.specs.Listing.{listing, entryNumbers}
-use Rattle.rules.specs.Rooms.{workHolds, listHolds, workNeed}
+use Rattle.rules.specs.Rooms.{workHolds, listHolds}
+use Rattle.rules.specs.Strands.{entries, matchSum, largerNeed, linkSum}
 use Rattle.rules.specs.Answers.{Outcome, refusal, done, zeroed, checked, compared}
+use Rattle.rules.proofs.Strands.{entry-size, entries-size}
 use Rattle.prepare.proofs.Checking.{accepted}
 use Rattle.compare.proofs.Demands.{Compared, refused, no-work-room, no-list-room, listed, demand-1}
 use Rattle.lines.specs.declared.Written.{Written}
@@ -21,12 +22,12 @@ use Rattle.lines.proofs.Lines.{line-length}
 use Rattle.frames.specs.declared.Done.{Done}
 use Rattle.frames.specs.declared.Refused.{Refused}
 use Rattle.payloads.specs.Numbers.{numberBytes}
-use Rattle.frames.specs.Kinds.{entryFits, entryLine, donePayload, doneFits, doneLine, refusedPayload, refusedFits, refusedLine}
-use Rattle.replies.specs.Output.{entryOf, doneOf, refusedOf, answerOf, jobOutput, inFront}
+use Rattle.frames.specs.Kinds.{entryFits, donePayload, doneFits, doneLine, refusedPayload, refusedFits, refusedLine}
+use Rattle.replies.specs.Output.{entryOf, lineOfEntry, doneOf, refusedOf, answerOf, jobOutput, inFront}
 use Rattle.replies.specs.Entries.{entryIn, entriesIn, EntriesSafe, ListingSafe, listingLines}
 use Rattle.replies.proofs.Writing.{wrote, rest-long, line-behind, entries-length}
-use Rattle.replies.proofs.Sizes.{Small, checked-small, matches-few, W-few, listing-few, entry-fits}
-use Rattle.replies.proofs.ReadBack.{entry-there, entries-back, laid-map, laid-length, no-record, member}
+use Rattle.replies.proofs.Sizes.{Small, checked-small, match-sum-few, need-few, entries-few, entry-fits}
+use Rattle.replies.proofs.ReadBack.{entry-there, entries-back, member}
 
 -- ---- one refused frame
 
@@ -34,7 +35,7 @@ refused-length : (x : Refused) → length (refusedLine x) ≡ 19
 unfolding refusedLine refusedPayload numberBytes
 refused-length x = line-length 31 (refusedPayload x)
 
-pub refused-written : (x : Refused) (out left : List ℕ) (w : Written) → refusedFits x ≡ true → 10847 ≤ length out → w ≡ written (refusedFits x) (refusedLine x) out
+pub refused-written : (x : Refused) (out left : List ℕ) (w : Written) → refusedFits x ≡ true → 9038 ≤ length out → w ≡ written (refusedFits x) (refusedLine x) out
     → left ≡ leaves (refusedFits x) (refusedLine x) out → (w .length ≡ length (refusedLine x)) × (left ≡ inFront (refusedLine x) out)
 unfolding inFront
 refused-written x out left w f h a b = wrote (refusedFits x) (refusedLine x) out left w f (omega (arith, refused-length x)) a b
@@ -50,9 +51,9 @@ pub entries-asked : (list old : List ℕ) (x : Answer) (n : ℕ) → ListingSafe
 entries-asked list old x n safe en = subst⁻¹ (λ (k : ℕ). EntriesSafe list old k) en (safe .entries)
 
 module _ (list old out : List ℕ) (x : Answer) (n at : ℕ) (safe : ListingSafe list old x) (en : n ≡ x .listed) (ea : at ≡ 27 * n)
-    (eo : out ≡ laid entryLine (entriesIn list n) ++ drop (27 * n) old) where
+    (eo : out ≡ laid lineOfEntry (entriesIn list n) ++ drop (27 * n) old) where
   abbrev text : List ℕ
-  text = laid entryLine (entriesIn list n)
+  text = laid lineOfEntry (entriesIn list n)
 
   entries-safe : EntriesSafe list old n
   entries-safe = entries-asked list old x n safe en
@@ -81,12 +82,12 @@ module _ (list old out : List ℕ) (x : Answer) (n at : ℕ) (safe : ListingSafe
         wrote (doneFits (doneOf x)) (doneLine (doneOf x)) (midOf at (length out - at) out) left w (safe .done)
         (rest-long text old out (doneLine (doneOf x)) left at e o out-long roomy) ew el
 
-    pub done-fits-word : at + w .length ≤ 10847
+    pub done-fits-word : at + w .length ≤ 9038
     done-fits-word = let f = entries-safe .few in omega (arith, fact .0, done-length (doneOf x))
 
     all-lines : text ++ doneLine (doneOf x) ≡ listingLines list x
     unfolding listingLines
-    all-lines = ap (λ (k : ℕ). laid entryLine (entriesIn list k) ++ doneLine (doneOf x)) en
+    all-lines = ap (λ (k : ℕ). laid lineOfEntry (entriesIn list k) ++ doneLine (doneOf x)) en
 
     there : at + length (doneLine (doneOf x)) ≡ length (text ++ doneLine (doneOf x))
     there = omega (arith, length-append text (doneLine (doneOf x)), e)
@@ -128,21 +129,21 @@ module _ (c : Settings) (s t : List ℕ) where
       go : Compared c s t work list → Small x
       go (refused f q) = subst⁻¹ Small (e ∙ ap (λ (y : Outcome). y .answer) q) (checked-small c s t)
       go (no-work-room z f q) =
-          let few = W-few c s t (accepted c s t z) in
-          subst⁻¹ Small (e ∙ ap (λ (y : Outcome). y .answer) q) (room-small 7 (workNeed c s t) work list (omega arith) (omega arith))
+          let few = need-few c s t (accepted c s t z) in
+          subst⁻¹ Small (e ∙ ap (λ (y : Outcome). y .answer) q) (room-small 7 (largerNeed c s t) work list (omega arith) (omega arith))
       go (no-list-room z f g q) =
-          let few = listing-few c s t (accepted c s t z) in
-          subst⁻¹ Small (e ∙ ap (λ (y : Outcome). y .answer) q) (room-small 8 (length (listing c s t)) work list (omega arith) (omega arith))
+          let few = entries-few c s t (accepted c s t z) in
+          subst⁻¹ Small (e ∙ ap (λ (y : Outcome). y .answer) q) (room-small 8 (length (entries c s t)) work list (omega arith) (omega arith))
       go (listed z f g q) = absurd (h (ap (λ (y : Answer). y .number) (e ∙ ap (λ (y : Outcome). y .answer) q)))
 
   module _ (x : Answer) (room : List ℕ) (ex : x ≡ compared c s t work list .answer) (er : room ≡ compared c s t work list .list) (z : x .number ≡ 0) where
     -- what a job that is done leaves
     record Left : Type 0 where
       pass : checked c s t .number ≡ 0
-      enough : workNeed c s t ≤ workHolds work
-      few : length (listing c s t) ≤ listHolds list
-      answer : x ≡ done c s t (length (listing c s t))
-      entries : room ≡ thenZeros (laid (entryNumbers (c .k)) (listing c s t)) (length list)
+      enough : largerNeed c s t ≤ workHolds work
+      few : length (entries c s t) ≤ listHolds list
+      answer : x ≡ done (length (entries c s t)) (matchSum c s t) (largerNeed c s t) (linkSum c s t)
+      written : room ≡ thenZeros (laid (λ entry. entry) (entries c s t)) (length list)
 
     left : Left
     unfolding zeroed refusal
@@ -152,42 +153,40 @@ module _ (c : Settings) (s t : List ℕ) where
         go (refused f q) = absurd (f (sym (ap (λ (y : Answer). y .number) (ex ∙ ap (λ (y : Outcome). y .answer) q)) ∙ z))
         go (no-work-room p f q) = absurd (let n = ap (λ (y : Answer). y .number) (ex ∙ ap (λ (y : Outcome). y .answer) q) in omega arith)
         go (no-list-room p f g q) = absurd (let n = ap (λ (y : Answer). y .number) (ex ∙ ap (λ (y : Outcome). y .answer) q) in omega arith)
-        go (listed p f g q) = record { pass = p; enough = f; few = g; answer = ex ∙ ap (λ (y : Outcome). y .answer) q; entries = er ∙ ap (λ (y : Outcome). y .list) q }
+        go (listed p f g q) = record { pass = p; enough = f; few = g; answer = ex ∙ ap (λ (y : Outcome). y .answer) q; written = er ∙ ap (λ (y : Outcome). y .list) q }
 
-    count-is : x .listed ≡ length (listing c s t)
+    count-is : x .listed ≡ length (entries c s t)
     unfolding done
     count-is = ap (λ (y : Answer). y .listed) (left .answer)
 
-    few-entries : length (listing c s t) ≤ 400
+    few-entries : length (entries c s t) ≤ 333
     unfolding listHolds
     few-entries = let f = left .few in omega (arith, length-replicate {A = ℕ} 2000 0)
 
     tail : List ℕ
-    tail = replicate (length list - length (laid (entryNumbers (c .k)) (listing c s t))) 0
+    tail = replicate (length list - length (laid (λ entry. entry) (entries c s t))) 0
 
-    room-is : room ≡ laid (entryNumbers (c .k)) (listing c s t) ++ tail
+    room-is : room ≡ laid (λ entry. entry) (entries c s t) ++ tail
     unfolding thenZeros tail
-    room-is = left .entries
+    room-is = left .written
 
     pub listing-output : listingLines room x ≡ jobOutput c s t
     unfolding listingLines jobOutput answerOf
     listing-output =
-        let lines : laid entryLine (entriesIn room (x .listed)) ≡ laid (λ r. entryLine (entryOf (c .k) r)) (listing c s t) =
-        ap (λ (n : ℕ). laid entryLine (entriesIn room n)) count-is
-        ∙ ap (laid entryLine) (entries-back (c .k) (listing c s t) room tail room-is)
-        ∙ laid-map (c .k) (listing c s t) in
+        let lines : laid lineOfEntry (entriesIn room (x .listed)) ≡ laid lineOfEntry (entries c s t) =
+        ap (λ (n : ℕ). laid lineOfEntry (entriesIn room n)) count-is ∙ ap (laid lineOfEntry) (entries-back (entries c s t) (entry-size c s t) room tail room-is) in
         rw (← ex, eq-eqb (x .number) 0 z) (ap (λ (l : List ℕ). l ++ doneLine (doneOf x)) lines)
 
-    fits-at : (n : ℕ) → n < x .listed → entryFits (entryIn room n) ≡ true
+    fits-at : (n : ℕ) → n < x .listed → entryFits (entryOf (entryIn room n)) ≡ true
     fits-at n h =
-        let l : n < length (listing c s t) = omega (arith, count-is) in
-        ap entryFits (entry-there (c .k) (listing c s t) room tail room-is n l)
-        ∙ entry-fits c s t (accepted c s t (left .pass)) (getD (listing c s t) n no-record) (member (listing c s t) n no-record l)
+        let l : n < length (entries c s t) = omega (arith, count-is) in
+        ap (λ (e : List ℕ). entryFits (entryOf e)) (entry-there (entries c s t) (entry-size c s t) room tail room-is n l)
+        ∙ entry-fits c s t (accepted c s t (left .pass)) (getD (entries c s t) n []) (member (entries c s t) n l)
 
     tallies-fit : doneFits (doneOf x) ≡ true
     unfolding doneFits doneOf workHolds done
     tallies-fit =
-        let m = matches-few c s t (accepted c s t (left .pass)) in
+        let m = match-sum-few c s t (accepted c s t (left .pass)) in
         let w = left .enough in
         let em = ap (λ (y : Answer). y .matches) (left .answer) in
         let ew = ap (λ (y : Answer). y .widest) (left .answer) in
@@ -197,10 +196,10 @@ module _ (c : Settings) (s t : List ℕ) where
           lt-ltb (x .widest) 4294967296 (omega (arith, length-replicate {A = ℕ} 4096 0)),
         )
 
-    room-long : 5 * x .listed ≤ length room
-    room-long = omega (arith, count-is, ap length room-is, length-append (laid (entryNumbers (c .k)) (listing c s t)) tail, laid-length (c .k) (listing c s t))
+    room-long : 6 * x .listed ≤ length room
+    room-long = omega (arith, count-is, ap length room-is, length-append (laid (λ entry. entry) (entries c s t)) tail, entries-size c s t)
 
-    pub listing-safe : (output : List ℕ) → 10847 ≤ length output → ListingSafe room output x
+    pub listing-safe : (output : List ℕ) → 9038 ≤ length output → ListingSafe room output x
     listing-safe output h =
         record {
           entries = record { held = room-long; room = omega (arith, count-is, few-entries); few = omega (arith, count-is, few-entries); fit = fits-at };

@@ -1,88 +1,73 @@
--- The entries of a list room are those of the listing that was laid out in it. Assumes nothing.
+-- The entries of a list room, read back by sixes, are those that were laid out in it: each has six numbers. Assumes nothing.
 use mathlib.Core.Path.{_≡_, refl, sym, ap, _∙_}
-use mathlib.Core.List.{List, [], _∷_, _++_, map, append-assoc, List·Memᴰ, List·Memᴰ·head, List·Memᴰ·tail}
-use Prim.Native.Nat.{ℕ, zero, suc, _+_, _-_, _*_, _≤_, _<_}
+use mathlib.Core.List.{List, [], _∷_, _++_, append-assoc, List·Memᴰ, List·Memᴰ·head, List·Memᴰ·tail}
+use Prim.Native.Nat.{ℕ, zero, suc, _+_, _*_, _≤_, _<_}
 use native.Mathlib.Nat.{not-suc-le-zero, le-of-suc-le-suc}
 use native.Mathlib.Omega.{arith}
-use lib.ListN.{length, getD, take, drop}
-use lib.Seq.{take-suc, split-at, getD-append-add, length-take-le, take-all}
-use Rattle.rules.specs.declared.Record.{Record}
+use lib.ListN.{length, getD, take, drop, length-append}
+use lib.Seq.{take-suc, split-at, getD-append-add, take-all}
 use Rattle.rules.specs.Lists.{laid}
-use Rattle.rules.specs.Listing.{entryNumbers}
-use Rattle.frames.specs.declared.Entry.{Entry}
-use Rattle.frames.specs.Kinds.{entryLine}
-use Rattle.replies.specs.Output.{entryOf}
+use Rattle.rules.proofs.ListLaws.{laid-append}
 use Rattle.replies.specs.Entries.{entryIn, entriesIn}
 
-pub no-record : Record
-no-record = record { cell = record { row = 0; column = 0 }; weight = 0; start = record { row = 0; column = 0 } }
+pub member : (all : List (List ℕ)) (n : ℕ) → n < length all → List·Memᴰ (getD all n []) all
+member [] n h = absurd (not-suc-le-zero h)
+member (x ∷ xs) zero h = List·Memᴰ·head refl
+member (x ∷ xs) (suc n) h = List·Memᴰ·tail (member xs n (le-of-suc-le-suc h))
 
-module _ (k : ℕ) where
-  laid-append : (xs ys : List Record) → laid (entryNumbers k) (xs ++ ys) ≡ laid (entryNumbers k) xs ++ laid (entryNumbers k) ys
+-- six numbers, one by one
+six : (e rest : List ℕ) → length e ≡ 6
+    → getD (e ++ rest) 0 0 ∷ getD (e ++ rest) 1 0 ∷ getD (e ++ rest) 2 0 ∷ getD (e ++ rest) 3 0 ∷ getD (e ++ rest) 4 0 ∷ getD (e ++ rest) 5 0 ∷ [] ≡ e
+six [] rest h = absurd (omega arith)
+six (a ∷ []) rest h = absurd (omega arith)
+six (a ∷ b ∷ []) rest h = absurd (omega arith)
+six (a ∷ b ∷ c ∷ []) rest h = absurd (omega arith)
+six (a ∷ b ∷ c ∷ d ∷ []) rest h = absurd (omega arith)
+six (a ∷ b ∷ c ∷ d ∷ e ∷ []) rest h = absurd (omega arith)
+six (a ∷ b ∷ c ∷ d ∷ e ∷ f ∷ []) rest h = refl
+six (a ∷ b ∷ c ∷ d ∷ e ∷ f ∷ g ∷ more) rest h = absurd (omega arith)
+
+-- the entry behind some numbers
+entry-behind : (before e rest : List ℕ) (n : ℕ) → length before ≡ 6 * n → length e ≡ 6 → entryIn (before ++ (e ++ rest)) n ≡ e
+unfolding entryIn
+entry-behind before e rest n l h =
+    let at : (i : ℕ) → getD (before ++ (e ++ rest)) (6 * n + i) 0 ≡ getD (e ++ rest) i 0 =
+    λ i. ap (λ (k : ℕ). getD (before ++ (e ++ rest)) (k + i) 0) (sym l) ∙ getD-append-add before (e ++ rest) i 0 in
+    let z : 6 * n ≡ 6 * n + 0 = omega arith in
+    let first : getD (before ++ (e ++ rest)) (6 * n) 0 ≡ getD (e ++ rest) 0 0 = ap (λ (k : ℕ). getD (before ++ (e ++ rest)) k 0) z ∙ at 0 in
+    (λ i. first i ∷ at 1 i ∷ at 2 i ∷ at 3 i ∷ at 4 i ∷ at 5 i ∷ []) ∙ six e rest h
+
+module _ (all : List (List ℕ)) (sixes : (e : List ℕ) → List·Memᴰ e all → length e ≡ 6) where
+  -- the numbers before an entry
+  before-size : (n : ℕ) → n ≤ length all → length (laid (λ entry. entry) (take n all)) ≡ 6 * n
   unfolding laid
-  laid-append [] ys = refl
-  laid-append (x ∷ xs) ys = ap (λ (l : List ℕ). entryNumbers k x ++ l) (laid-append xs ys) ∙ sym (append-assoc (entryNumbers k x) (laid (entryNumbers k) xs) (laid (entryNumbers k) ys))
+  before-size zero h = refl
+  before-size (suc n) h =
+      let e = getD all n [] in
+      ap (λ (l : List (List ℕ)). length (laid (λ entry. entry) l)) (take-suc all n [] h)
+      ∙ ap length (laid-append (λ (entry : List ℕ). entry) (take n all) (e ∷ []))
+      ∙ omega (arith, length-append (laid (λ entry. entry) (take n all)) (e ++ []), length-append e [], before-size n (omega arith), sixes e (member all n h))
 
-  pub laid-length : (xs : List Record) → length (laid (entryNumbers k) xs) ≡ 5 * length xs
-  unfolding laid entryNumbers
-  laid-length [] = refl
-  laid-length (x ∷ xs) = omega (arith, laid-length xs)
-
-  -- the numbers behind the first entries
-  behind : (before : List Record) (x : Record) (rest : List ℕ) (i n : ℕ) → n ≡ 5 * length before + i
-      → getD (laid (entryNumbers k) before ++ (entryNumbers k x ++ rest)) n 0 ≡ getD (entryNumbers k x ++ rest) i 0
-  behind before x rest i n e =
-      ap (λ (j : ℕ). getD (laid (entryNumbers k) before ++ (entryNumbers k x ++ rest)) j 0) (e ∙ ap (λ (j : ℕ). j + i) (sym (laid-length before)))
-      ∙ getD-append-add (laid (entryNumbers k) before) (entryNumbers k x ++ rest) i 0
-
-  entry-behind : (before : List Record) (x : Record) (rest : List ℕ) → entryIn (laid (entryNumbers k) before ++ (entryNumbers k x ++ rest)) (length before) ≡ entryOf k x
-  unfolding entryIn entryOf entryNumbers
-  entry-behind before x rest =
-      rw (
-        behind before x rest 0 (5 * length before) (omega arith),
-        behind before x rest 1 (5 * length before + 1) refl,
-        behind before x rest 2 (5 * length before + 2) refl,
-        behind before x rest 3 (5 * length before + 3) refl,
-        behind before x rest 4 (5 * length before + 4) refl,
-      )
-
-  module _ (all : List Record) (room tail : List ℕ) (e : room ≡ laid (entryNumbers k) all ++ tail) where
-    -- the entry behind n others is the listing's
-    pub entry-there : (n : ℕ) → n < length all → entryIn room n ≡ entryOf k (getD all n no-record)
+  module _ (room tail : List ℕ) (is : room ≡ laid (λ entry. entry) all ++ tail) where
+    pub entry-there : (n : ℕ) → n < length all → entryIn room n ≡ getD all n []
     unfolding laid
     entry-there n h =
         let before = take n all in
-        let x = getD all n no-record in
+        let e = getD all n [] in
         let after = drop (suc n) all in
-        let whole : laid (entryNumbers k) all ++ tail ≡ laid (entryNumbers k) before ++ (entryNumbers k x ++ (laid (entryNumbers k) after ++ tail)) =
-        ap (λ (l : List Record). laid (entryNumbers k) l ++ tail) (split-at all n no-record h)
-        ∙ ap (λ (l : List ℕ). l ++ tail) (laid-append before (x ∷ after))
-        ∙ append-assoc (laid (entryNumbers k) before) (entryNumbers k x ++ laid (entryNumbers k) after) tail
-        ∙ ap (λ (l : List ℕ). laid (entryNumbers k) before ++ l) (append-assoc (entryNumbers k x) (laid (entryNumbers k) after) tail) in
-        ap (λ (l : List ℕ). entryIn l n) (e ∙ whole)
-        ∙ ap (entryIn (laid (entryNumbers k) before ++ (entryNumbers k x ++ (laid (entryNumbers k) after ++ tail)))) (sym (length-take-le n all (omega arith)))
-        ∙ entry-behind before x (laid (entryNumbers k) after ++ tail)
+        let front = laid (λ entry. entry) before in
+        let whole : laid (λ entry. entry) all ++ tail ≡ front ++ (e ++ (laid (λ entry. entry) after ++ tail)) =
+        ap (λ (l : List (List ℕ)). laid (λ entry. entry) l ++ tail) (split-at all n [] h)
+        ∙ ap (λ (l : List ℕ). l ++ tail) (laid-append (λ (entry : List ℕ). entry) before (e ∷ after))
+        ∙ append-assoc front (e ++ laid (λ entry. entry) after) tail
+        ∙ ap (λ (l : List ℕ). front ++ l) (append-assoc e (laid (λ entry. entry) after) tail) in
+        ap (λ (l : List ℕ). entryIn l n) (is ∙ whole) ∙ entry-behind front e (laid (λ entry. entry) after ++ tail) n (before-size n (omega arith)) (sixes e (member all n h))
 
-    map-snoc : (xs : List Record) (x : Record) → map (entryOf k) (xs ++ (x ∷ [])) ≡ map (entryOf k) xs ++ (entryOf k x ∷ [])
-    map-snoc [] x = refl
-    map-snoc (y ∷ ys) x = ap (λ (l : List Entry). entryOf k y ∷ l) (map-snoc ys x)
-
-    entries-to : (n : ℕ) → n ≤ length all → entriesIn room n ≡ map (entryOf k) (take n all)
+    entries-to : (n : ℕ) → n ≤ length all → entriesIn room n ≡ take n all
     unfolding entriesIn
     entries-to zero h = refl
-    entries-to (suc n) h =
-        rw (take-suc all n no-record h, map-snoc (take n all) (getD all n no-record), ← entry-there n h, ← entries-to n (omega arith))
+    entries-to (suc n) h = rw (take-suc all n [] h, ← entry-there n h, ← entries-to n (omega arith))
 
     -- so all of them are
-    pub entries-back : entriesIn room (length all) ≡ map (entryOf k) all
-    entries-back = entries-to (length all) (omega arith) ∙ ap (map (entryOf k)) (take-all (length all) all (omega arith))
-
-  pub laid-map : (xs : List Record) → laid entryLine (map (entryOf k) xs) ≡ laid (λ r. entryLine (entryOf k r)) xs
-  unfolding laid
-  laid-map [] = refl
-  laid-map (x ∷ xs) = ap (λ (l : List ℕ). entryLine (entryOf k x) ++ l) (laid-map xs)
-
-pub member : (all : List Record) (n : ℕ) (d : Record) → n < length all → List·Memᴰ (getD all n d) all
-member [] n d h = absurd (not-suc-le-zero h)
-member (x ∷ xs) zero d h = List·Memᴰ·head refl
-member (x ∷ xs) (suc n) d h = List·Memᴰ·tail (member xs n d (le-of-suc-le-suc h))
+    pub entries-back : entriesIn room (length all) ≡ all
+    entries-back = entries-to (length all) (omega arith) ∙ take-all (length all) all (omega arith)

@@ -1,67 +1,39 @@
 -- Every number of an answer fits its field in a frame: places are at most 16,384, weights at most 32,768, matches at most 2^28. Assumes nothing.
-use mathlib.Core.Path.{_≡_, refl, ap}
+use mathlib.Core.Path.{_≡_, refl, ap, _∙_}
 use mathlib.Core.Bool.{Bool, true, false, cond}
-use mathlib.Core.List.{List, [], _∷_, map, List·Memᴰ}
-use Prim.Native.Nat.{ℕ, zero, suc, _+_, _-_, _*_, _≤_, _<_}
+use mathlib.Core.List.{List, [], _∷_, List·Memᴰ}
+use Prim.Native.Nat.{ℕ, zero, suc, _+_, _-_, _≤_, _<_}
 use native.Mathlib.Nat.{le-trans, mul-le-mul}
 use native.Mathlib.Omega.{arith}
-use lib.Dec.{ltb}
-use lib.ListN.{length, length-append, length-map}
+use lib.Dec.{eqb, ltb}
+use lib.ListN.{length, length-map}
 use borrow.Author.Tests.{lt-ltb, ltb-true, ltb-false}
 use Rattle.rules.specs.declared.Settings.{Settings}
 use Rattle.rules.specs.declared.Answer.{Answer}
 use Rattle.rules.specs.declared.Cell.{Cell}
 use Rattle.rules.specs.declared.Record.{Record}
-use Rattle.rules.specs.Lists.{keep, count, countTo}
+use Rattle.rules.specs.Lists.{keep, count}
 use Rattle.rules.specs.Letters.{badPlace}
 use Rattle.rules.specs.Places.{places}
-use Rattle.rules.specs.Matches.{isMatch, matches, rowTo, matchesTo}
-use Rattle.rules.specs.Chains.{Chain, one, more}
+use Rattle.rules.specs.Matches.{isMatch, matches}
 use Rattle.rules.specs.Records.{records}
-use Rattle.rules.specs.Listing.{listing, isListed, ends}
+use Rattle.rules.specs.Listing.{listing, isListed, ends, entryNumbers}
 use Rattle.rules.specs.Rooms.{matchTotal, workNeed, largestRun, inRun}
+use Rattle.rules.specs.Strands.{onStrand, strands, turned, reverseNumbers, strandNumbers, strandEntries, entries, matchSum, largerNeed}
 use Rattle.rules.specs.Answers.{firstOf, refusal, outside, checked}
 use Rattle.rules.proofs.Tests.{by-test}
-use Rattle.rules.proofs.ListLaws.{largestTo-le, count-length}
-use Rattle.rules.proofs.LeftExtensions.{extend-facts}
-use Rattle.rules.proofs.Bounds.{row-length}
+use Rattle.rules.proofs.ListLaws.{largestTo-le, largestOf-le, sumOf-le, count-length, laid-few}
+use Rattle.rules.proofs.Bounds.{few-matches}
 use Rattle.rules.proofs.Listings.{keep-in}
-use Rattle.rules.proofs.Weights.{chain-hit}
+use Rattle.rules.proofs.Weights.{chain-hit, chain-grown}
 use Rattle.rules.proofs.Jobs.{match-inside, start-of-heaviest}
+use Rattle.rules.proofs.Strands.{entry-from}
 use Rattle.rules.proofs.Theorems.{one-record-each}
 use Rattle.letters.proofs.FirstBad.{bad-first}
 use Rattle.prepare.specs.Prepared.{Accepted}
+use Rattle.prepare.proofs.Reversing.{turned-accepted}
 use Rattle.frames.specs.Kinds.{entryFits}
 use Rattle.replies.specs.Output.{entryOf}
-
--- a chain goes down and to the right, by at least one a match
-pub record Grown (p y : Cell) (n : ℕ) : Type 0 where
-  pub rows : p .row ≤ y .row
-  pub columns : p .column ≤ y .column
-  pub weight : n + p .row + p .column ≤ y .row + y .column + 1
-
-pub chain-grown : {b : ℕ} {hit : Cell → Bool} {p y : Cell} {n : ℕ} → Chain b hit p y n → Grown p y n
-chain-grown (one h) = record { rows = omega arith; columns = omega arith; weight = omega arith }
-chain-grown {b} (more {x = x} {y = y} c l h) =
-    let g = chain-grown c in
-    let e = extend-facts b x y l in
-    record {
-      rows = (let r = g .rows in let q = e .row-le in omega arith);
-      columns = (let r = g .columns in let q = e .column-le in omega arith);
-      weight = (let r = g .weight in let q = e .moved in omega arith);
-    }
-
-count-to : (f : ℕ → Bool) (n : ℕ) → countTo f n ≤ n
-unfolding countTo
-count-to f zero = omega arith
-count-to f (suc n) = by-test (λ (m : ℕ). countTo f n + m ≤ suc n) (f (suc n)) 1 0 (λ _. omega (arith, count-to f n)) (λ _. omega (arith, count-to f n))
-
-few-matches : (hit : Cell → Bool) (columns n : ℕ) → length (matchesTo hit columns n) ≤ n * columns
-unfolding matchesTo
-few-matches hit columns zero = omega arith
-few-matches hit columns (suc n) =
-    omega
-    (arith, length-append (matchesTo hit columns n) (rowTo hit (suc n) columns), few-matches hit columns n, row-length hit (suc n) columns, count-to (λ k. hit (record { row = suc n; column = k })) columns)
 
 keep-few : {A : Type 0} (f : A → Bool) (xs : List A) → length (keep f xs) ≤ length xs
 unfolding keep
@@ -77,29 +49,29 @@ module _ (c : Settings) (s t : List ℕ) (ok : Accepted c s t) where
   unfolding places
   few-columns = let k = ok .some-base in let l = ok .short-second in omega arith
 
-  pub matches-few : matchTotal c s t ≤ 268435456
+  matches-few : matchTotal c s t ≤ 268435456
   unfolding matchTotal matches
   matches-few = le-trans (few-matches (isMatch c s t) (places (c .k) t) (places (c .k) s)) (mul-le-mul few-rows few-columns)
 
-  pub W-few : workNeed c s t ≤ 268435456
+  W-few : workNeed c s t ≤ 268435456
   unfolding workNeed largestRun matchTotal
   W-few = le-trans (largestTo-le (λ i. count (inRun (c .b) i) (matches c s t)) (length (matches c s t)) (places (c .k) s) (λ i. count-length (inRun (c .b) i) (matches c s t))) matches-few
 
-  pub listing-few : length (listing c s t) ≤ 268435456
+  listing-few : length (listing c s t) ≤ 268435456
   unfolding listing matchTotal
   listing-few =
       le-trans (keep-few (isListed c (matches c s t)) (records c s t))
       (omega (arith, ap (λ (l : List Cell). length l) (one-record-each c s t), length-map (records c s t) (λ (x : Record). x .cell), matches-few))
 
   -- the numbers of an entry
-  record Narrow (x : Record) : Type 0 where
-    first-start : x .start .row < 65536
-    first-end : x .cell .row + c .k - 1 < 65536
-    second-start : x .start .column < 65536
-    second-end : x .cell .column + c .k - 1 < 65536
-    weight : x .weight < 65536
+  pub record Narrow (x : Record) : Type 0 where
+    pub first-start : x .start .row < 65536
+    pub first-end : x .cell .row + c .k - 1 < 65536
+    pub second-start : x .start .column < 65536
+    pub second-end : x .cell .column + c .k - 1 < 65536
+    pub weight : x .weight < 65536
 
-  narrow : (x : Record) → List·Memᴰ x (listing c s t) → Narrow x
+  pub narrow : (x : Record) → List·Memᴰ x (listing c s t) → Narrow x
   unfolding listing places
   narrow x m =
       let chain = start-of-heaviest c s t x (keep-in (isListed c (matches c s t)) (records c s t) x m .0) in
@@ -117,10 +89,40 @@ module _ (c : Settings) (s t : List ℕ) (ok : Accepted c s t) where
       let gw = g .weight in
       record { first-start = omega arith; first-end = omega arith; second-start = omega arith; second-end = omega arith; weight = omega arith }
 
-  pub entry-fits : (x : Record) → List·Memᴰ x (listing c s t) → entryFits (entryOf (c .k) x) ≡ true
-  unfolding entryFits entryOf ends
-  entry-fits x m =
-      let n = narrow x m in
+-- ---- over the strands
+
+-- an accepted job is accepted on either strand
+on-strand : {c : Settings} {s t : List ℕ} (strand : ℕ) → Accepted c s t → Accepted c s (onStrand strand t)
+unfolding onStrand
+on-strand zero ok = ok
+on-strand (suc n) ok = turned-accepted ok
+
+few-strands : (c : Settings) → length (strands c) ≤ 2
+unfolding strands
+few-strands c = by-test (λ (l : List ℕ). length l ≤ 2) (eqb (c .strand) 0) (0 ∷ []) (0 ∷ 1 ∷ []) (λ _. omega arith) (λ _. omega arith)
+
+module _ (c : Settings) (s t : List ℕ) (ok : Accepted c s t) where
+  pub match-sum-few : matchSum c s t ≤ 536870912
+  unfolding matchSum
+  match-sum-few =
+      le-trans (sumOf-le (λ r. matchTotal c s (onStrand r t)) 268435456 (strands c) (λ r m. matches-few c s (onStrand r t) (on-strand r ok)))
+      (let n = few-strands c in omega arith)
+
+  pub need-few : largerNeed c s t ≤ 268435456
+  unfolding largerNeed
+  need-few = largestOf-le (λ r. workNeed c s (onStrand r t)) 268435456 (strands c) (λ r. W-few c s (onStrand r t) (on-strand r ok))
+
+  pub entries-few : length (entries c s t) ≤ 536870912
+  unfolding entries strandEntries
+  entries-few =
+      le-trans
+      (laid-few (strandEntries c s t) 268435456 (strands c)
+      (λ r. omega (arith, listing-few c s (onStrand r t) (on-strand r ok), length-map (listing c s (onStrand r t)) (strandNumbers r (length t) (c .k)))))
+      (let n = few-strands c in omega arith)
+
+  numbers-fit : (strand : ℕ) (x : Record) → Narrow c s (onStrand strand t) (on-strand strand ok) x → entryFits (entryOf (strandNumbers strand (length t) (c .k) x)) ≡ true
+  unfolding entryFits entryOf strandNumbers entryNumbers reverseNumbers ends turned
+  numbers-fit zero x n =
       rw (
         lt-ltb (x .start .row) 65536 (n .first-start),
         lt-ltb (x .cell .row + c .k - 1) 65536 (n .first-end),
@@ -128,6 +130,21 @@ module _ (c : Settings) (s t : List ℕ) (ok : Accepted c s t) where
         lt-ltb (x .cell .column + c .k - 1) 65536 (n .second-end),
         lt-ltb (x .weight) 65536 (n .weight),
       )
+  numbers-fit (suc strand) x n =
+      let l = ok .short-second in
+      rw (
+        lt-ltb (x .start .row) 65536 (n .first-start),
+        lt-ltb (x .cell .row + c .k - 1) 65536 (n .first-end),
+        lt-ltb (length t + 1 - (x .cell .column + c .k - 1)) 65536 (omega arith),
+        lt-ltb (length t + 1 - x .start .column) 65536 (omega arith),
+        lt-ltb (x .weight) 65536 (n .weight),
+      )
+
+  pub entry-fits : (entry : List ℕ) → List·Memᴰ entry (entries c s t) → entryFits (entryOf entry) ≡ true
+  entry-fits entry m =
+      let f = entry-from c s t entry m in
+      ap (λ (l : List ℕ). entryFits (entryOf l)) (f .numbers)
+      ∙ numbers-fit (f .strand) (f .from) (narrow c s (onStrand (f .strand) t) (on-strand (f .strand) ok) (f .from) (f .is-listed))
 
 -- ---- refusals
 
@@ -166,7 +183,8 @@ checked-small c s t =
     (line-small (outside 1 1024 (c .b)) 2 0 0 _ (omega arith) (omega arith) (λ _. omega arith)
     (line-small (outside 1 1024 (c .a)) 3 0 0 _ (omega arith) (omega arith) (λ _. omega arith)
     (line-small (outside 0 16384 (c .m)) 4 0 0 _ (omega arith) (omega arith) (λ _. omega arith)
+    (line-small (outside 0 1 (c .strand)) 9 0 0 _ (omega arith) (omega arith) (λ _. omega arith)
     (long-first s 1 _ (omega arith) (λ a.
     long-first t 2 _ (omega arith) (λ b.
     line-small (ltb 0 (badPlace s)) 6 1 (badPlace s) _ (omega arith) (omega arith) (bad-small s a)
-    (line-small (ltb 0 (badPlace t)) 6 2 (badPlace t) _ (omega arith) (omega arith) (bad-small t b) none)))))))
+    (line-small (ltb 0 (badPlace t)) 6 2 (badPlace t) _ (omega arith) (omega arith) (bad-small t b) none))))))))

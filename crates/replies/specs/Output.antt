@@ -1,30 +1,33 @@
--- Document 01, "Frames": what `chain` writes for a job, "the entries and one done frame, or one refused frame alone". "It lends 4,096 numbers of work
--- room and 2,000 of list room." Assumes nothing.
+-- Document 01, "Frames", with CR 1: what `chain` writes for a job, "the entries and one done frame, or one refused frame alone". "It lends 4,096 numbers
+-- of work room and 2,000 of list room." Assumes nothing.
 use mathlib.Core.Bool.{cond}
 use mathlib.Core.List.{List, _++_}
 use Prim.Native.Nat.{ℕ}
 use lib.Dec.{eqb}
-use lib.ListN.{length, drop, replicate}
+use lib.ListN.{length, getD, drop, replicate}
 use Rattle.rules.specs.declared.Settings.{Settings}
 use Rattle.rules.specs.declared.Answer.{Answer}
-use Rattle.rules.specs.declared.Record.{Record}
 use Rattle.rules.specs.Lists.{laid}
-use Rattle.rules.specs.Listing.{listing, ends}
+use Rattle.rules.specs.Strands.{entries}
 use Rattle.rules.specs.Answers.{compared}
 use Rattle.frames.specs.declared.Entry.{Entry}
 use Rattle.frames.specs.declared.Done.{Done}
 use Rattle.frames.specs.declared.Refused.{Refused}
-use Rattle.frames.specs.Kinds.{entryLine, doneLine, refusedLine}
+use Rattle.frames.specs.Kinds.{entryLine, reverseLine, doneLine, refusedLine}
 
--- "p, i + k - 1, q, j + k - 1, weight"
-unfoldable pub entryOf : ℕ → Record → Entry
-unfolding ends
-entryOf k x =
+-- the first five numbers of an entry
+unfoldable pub entryOf : List ℕ → Entry
+entryOf numbers =
     record {
-      first = record { start = x .start .row; end = ends k (x .cell) .row };
-      second = record { start = x .start .column; end = ends k (x .cell) .column };
-      weight = x .weight;
+      first = record { start = getD numbers 0 0; end = getD numbers 1 0 };
+      second = record { start = getD numbers 2 0; end = getD numbers 3 0 };
+      weight = getD numbers 4 0;
     }
+
+-- its line: "Frame kind 12 .. carries a reverse entry's five numbers, kind 10 stays forward". The sixth number is the strand
+unfoldable pub lineOfEntry : List ℕ → List ℕ
+unfolding entryLine reverseLine entryOf
+lineOfEntry numbers = cond (eqb (getD numbers 5 0) 0) (entryLine (entryOf numbers)) (reverseLine (entryOf numbers))
 
 unfoldable pub doneOf : Answer → Done
 doneOf x = record { listed = x .listed; matches = x .matches; widest = x .widest; links = x .links }
@@ -38,10 +41,10 @@ unfolding compared
 answerOf c first second = compared c first second (replicate 4096 0) (replicate 2000 0) .answer
 
 unfoldable pub jobOutput : Settings → List ℕ → List ℕ → List ℕ
-unfolding answerOf listing laid entryLine entryOf doneLine doneOf refusedLine refusedOf
+unfolding answerOf entries laid lineOfEntry doneLine doneOf refusedLine refusedOf
 jobOutput c first second =
     let x = answerOf c first second in
-    cond (eqb (x .number) 0) (laid (λ r. entryLine (entryOf (c .k) r)) (listing c first second) ++ doneLine (doneOf x)) (refusedLine (refusedOf x))
+    cond (eqb (x .number) 0) (laid lineOfEntry (entries c first second) ++ doneLine (doneOf x)) (refusedLine (refusedOf x))
 
 -- what is left of an output slice: a text in front, and behind it what was there
 unfoldable pub inFront : List ℕ → List ℕ → List ℕ

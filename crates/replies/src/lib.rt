@@ -3,6 +3,7 @@ use frames::Done;
 use frames::Entry;
 use frames::Refused;
 use frames::Span;
+use lines::Written;
 use rules::Answer;
 use rules::Settings;
 ghost use mathlib.Core.Path.{_≡_};
@@ -11,16 +12,17 @@ ghost use mathlib.Core.List.{_++_};
 ghost use Prim.Native.Nat.{_+_, _*_, _≤_};
 ghost use lib.ListN.{length, drop};
 ghost use Rattle.rules.specs.Lists.{laid};
-ghost use Rattle.frames.specs.Kinds.{entryLine, refusedLine, refusedFits};
-ghost use Rattle.replies.specs.Output.{jobOutput, inFront};
+ghost use Rattle.lines.specs.Writing.{written, leaves};
+ghost use Rattle.frames.specs.Kinds.{entryFits, refusedLine, refusedFits};
+ghost use Rattle.replies.specs.Output.{entryOf, lineOfEntry, jobOutput, inFront};
 ghost use Rattle.replies.specs.Entries.{entryIn, entriesIn, EntriesSafe, ListingSafe, listingLines};
 
-// The entry behind n others.
+// The first five numbers of the entry behind n others.
 fn entry_at(list: &[u32], n: usize) -> Entry
-    requires { ⌜ 5 * n + 5 ≤ length (now list) ⌝ }
-    ensures { λ r. ⌜ r ≡ entryIn (now (list .entry)) n ⌝ }
+    requires { ⌜ 6 * n + 6 ≤ length (now list) ⌝ }
+    ensures { λ r. ⌜ r ≡ entryOf (entryIn (now (list .entry)) n) ⌝ }
 {
-    let at = 5 * n;
+    let at = 6 * n;
     let first = Span {
         start: casts::long(list[at]),
         end: casts::long(list[at + 1]),
@@ -36,16 +38,29 @@ fn entry_at(list: &[u32], n: usize) -> Entry
     }
 }
 
+// Writes the line of the entry behind n others: its kind tells the strand.
+fn put_entry(list: &[u32], n: usize, output: &mut [u8]) -> Written
+    requires { ⌜ 6 * n + 6 ≤ length (now list) ⌝ }
+    ensures { λ r. ⌜ r ≡ written (entryFits (entryOf (entryIn (now (list .entry)) n))) (lineOfEntry (entryIn (now (list .entry)) n)) (now (output .entry)) ⌝ }
+    ensures { λ _. ⌜ now (output .exit) ≡ leaves (entryFits (entryOf (entryIn (now (list .entry)) n))) (lineOfEntry (entryIn (now (list .entry)) n)) (now (output .entry)) ⌝ }
+{
+    let entry = entry_at(list, n);
+    if list[6 * n + 5] == 0 {
+        return frames::write_entry(entry, output);
+    }
+    frames::write_reverse_entry(entry, output)
+}
+
 // Writes the first entries of a list room, a line each, and returns where the lines end.
 fn put_entries(list: &[u32], count: usize, output: &mut [u8]) -> usize
     requires { ⌜ EntriesSafe (now list) (now output) count ⌝ }
     ensures { λ r. ⌜ r ≡ 27 * count ⌝ }
-    ensures { λ _. ⌜ now (output .exit) ≡ laid entryLine (entriesIn (now (list .entry)) count) ++ drop (27 * count) (now (output .entry)) ⌝ }
+    ensures { λ _. ⌜ now (output .exit) ≡ laid lineOfEntry (entriesIn (now (list .entry)) count) ++ drop (27 * count) (now (output .entry)) ⌝ }
 {
     let mut at: usize = 0;
     let mut n: usize = 0;
     while n < count {
-        let line = frames::write_entry(entry_at(list, n), &mut output[at..]);
+        let line = put_entry(list, n, &mut output[at..]);
         at += line.length;
         n += 1;
     }
@@ -79,7 +94,7 @@ fn put_listing(list: &[u32], x: Answer, output: &mut [u8]) -> usize
 // Writes one refused frame, and returns where its line ends.
 pub fn put_refused(x: Refused, output: &mut [u8]) -> usize
     requires { ⌜ refusedFits x ≡ true ⌝ }
-    requires { ⌜ 10847 ≤ length (now output) ⌝ }
+    requires { ⌜ 9038 ≤ length (now output) ⌝ }
     ensures { λ r. ⌜ r ≡ length (refusedLine x) ⌝ }
     ensures { λ _. ⌜ now (output .exit) ≡ inFront (refusedLine x) (now (output .entry)) ⌝ }
 {
@@ -87,9 +102,9 @@ pub fn put_refused(x: Refused, output: &mut [u8]) -> usize
     line.length
 }
 
-// Runs a job in the rooms that the paper names and writes its whole output, at most 400 entries of 27 bytes and a done frame of 47.
+// Runs a job in the rooms that the paper names and writes its whole output, at most 333 entries of 27 bytes and a done frame of 47.
 pub fn answer_job(c: Settings, first: &[u8], second: &[u8], output: &mut [u8]) -> usize
-    requires { ⌜ 10847 ≤ length (now output) ⌝ }
+    requires { ⌜ 9038 ≤ length (now output) ⌝ }
     ensures { λ r. ⌜ r ≡ length (jobOutput c (now (first .entry)) (now (second .entry))) ⌝ }
     ensures { λ _. ⌜ now (output .exit) ≡ inFront (jobOutput c (now (first .entry)) (now (second .entry))) (now (output .entry)) ⌝ }
 {

@@ -1,12 +1,13 @@
 -- Where a record lies in work room and an entry in list room. Assumes nothing.
 use mathlib.Core.Path.{_≡_}
 use mathlib.Core.List.{List, [], _∷_}
-use Prim.Native.Nat.{ℕ, _+_, _-_, _*_, _%_, _^_, _<_}
-use lib.ListN.{getD}
+use Prim.Native.Nat.{ℕ, zero, suc, _+_, _-_, _*_, _%_, _^_, _<_}
+use lib.ListN.{getD, set}
 use lib.Seq.{sets}
 use Rattle.rules.specs.Matches.{cell}
 use Rattle.rules.specs.declared.Record.{Record}
 use Rattle.rules.specs.Rooms.{recordNumbers}
+use Rattle.rules.specs.Strands.{turned}
 
 -- the record in a slot
 unfoldable pub recordIn : List ℕ → ℕ → Record
@@ -34,9 +35,22 @@ entryIn32 k x =
     ∷ x .start .column
     ∷ ((x .cell .column + (k - 1)) % 2 ^ 32)
     ∷ x .weight
+    ∷ 0
     ∷ []
 
 -- the room with an entry's numbers behind n entries
 unfoldable pub putEntry : List ℕ → ℕ → ℕ → Record → List ℕ
 unfolding entryIn32
-putEntry list n k x = sets list (5 * n) (entryIn32 k x)
+putEntry list n k x = sets list (6 * n) (entryIn32 k x)
+
+-- the entry behind n others turned back: its places of the second sequence counted from the other end, start and end exchanged, and the strand 1
+unfoldable pub turnEntry : ℕ → List ℕ → ℕ → List ℕ
+unfolding turned
+turnEntry letters list n =
+    set (set (set list (6 * n + 2) (turned letters (getD list (6 * n + 3) 0))) (6 * n + 3) (turned letters (getD list (6 * n + 2) 0))) (6 * n + 5) 1
+
+-- the first n entries turned back
+unfoldable pub turnEntries : ℕ → List ℕ → ℕ → List ℕ
+unfolding turnEntry
+turnEntries letters list zero = list
+turnEntries letters list (suc n) = turnEntry letters (turnEntries letters list n) n

@@ -2,7 +2,7 @@
 use mathlib.Core.Path.{_≡_, refl, ap, subst, subst⁻¹}
 use mathlib.Core.Logic.{_⊎_, inl, inr}
 use mathlib.Core.Bool.{Bool, true, false, cond, _&&_}
-use mathlib.Core.Option.{Option, none, some}
+use mathlib.Core.Option.{Option}
 use mathlib.Core.List.{List, [], _∷_, List·Memᴰ, List·Memᴰ·head, List·Memᴰ·tail}
 use Prim.Native.Nat.{ℕ, zero, suc, _+_, _-_, _*_, _≤_, zero-le, min}
 use native.Mathlib.Nat.{le-of-eq, le-trans, mul-le-mul-left}
@@ -34,6 +34,19 @@ row-length hit i (suc j) =
     one-more : (c : Cell) (t : Bool) → length (cond {A = List Cell} t (c ∷ []) []) ≡ cond t 1 0
     one-more c true = refl
     one-more c false = refl
+
+-- no more matches than cells
+count-to : (f : ℕ → Bool) (n : ℕ) → countTo f n ≤ n
+unfolding countTo
+count-to f zero = omega arith
+count-to f (suc n) = by-test (λ (m : ℕ). countTo f n + m ≤ suc n) (f (suc n)) 1 0 (λ _. omega (arith, count-to f n)) (λ _. omega (arith, count-to f n))
+
+pub few-matches : (hit : Cell → Bool) (columns n : ℕ) → length (matchesTo hit columns n) ≤ n * columns
+unfolding matchesTo
+few-matches hit columns zero = omega arith
+few-matches hit columns (suc n) =
+    omega
+    (arith, length-append (matchesTo hit columns n) (rowTo hit (suc n) columns), few-matches hit columns n, row-length hit (suc n) columns, count-to (λ k. hit (cell (suc n) k)) columns)
 
 -- ---- rows max(1, i - b) to i of the rows 1 to n, and so for columns
 

@@ -1,12 +1,12 @@
 -- Of every job: its list of matches, and its records, which have the heaviest weights and the starts. Assumes nothing.
-use mathlib.Core.Path.{_≡_, sym, subst⁻¹}
+use mathlib.Core.Path.{_≡_, subst⁻¹}
 use mathlib.Core.Logic.{_⊎_, inl, inr}
 use mathlib.Core.List.{List, [], map, List·Memᴰ, List·Memᴰ·not-nil, Memᴰ·of-map}
 use Prim.Native.Nat.{ℕ, _≤_}
 use lib.Dec.{T}
 use Rattle.rules.specs.declared.Settings.{Settings}
 use Rattle.rules.specs.Places.{places, kmerAt, sameKmer, total}
-use Rattle.rules.specs.Matches.{Cell, cell, isMatch, matches}
+use Rattle.rules.specs.Matches.{Cell, isMatch, matches}
 use Rattle.rules.specs.Chains.{Chain, Heaviest, Start}
 use Rattle.rules.specs.Records.{Record, recordOf, records}
 use Rattle.rules.proofs.Tests.{tests}

@@ -2,22 +2,21 @@
 -- Assumes nothing.
 use mathlib.Core.Path.{_≡_, refl, sym, ap, ap₂, subst, _∙_}
 use mathlib.Core.Logic.{_⊎_, inl, inr}
-use mathlib.Core.Bool.{true, false, _&&_}
+use mathlib.Core.Bool.{true, _&&_}
 use mathlib.Core.Option.{Option, none, some}
 use mathlib.Core.List.{List, [], _∷_, _++_}
 use Prim.Native.Nat.{ℕ, zero, suc, _+_, _-_, _*_, _≤_, _<_}
-use native.Mathlib.Nat.{add-zero}
 use native.Mathlib.Omega.{arith}
 use lib.Dec.{T, leb, ltb, eqb}
-use lib.ListN.{length, getD, take, drop, length-append, length-take, length-drop, List·getD-append, List·getD-eq-default}
+use lib.ListN.{length, getD, length-append, length-take, length-drop, List·getD-append, List·getD-eq-default}
 use lib.Seq.{getD-at}
 use Rattle.rules.specs.declared.Settings.{Settings}
-use Rattle.rules.specs.Lists.{text, placeFrom, countTo}
+use Rattle.rules.specs.Lists.{text, countTo}
 use Rattle.rules.specs.Places.{places, baseOf, allBases, lettersAt, kmerAt, packOn, packed, sameLetters, sameKmer, total}
 use Rattle.rules.specs.Matches.{Cell, isMatch}
 use Rattle.rules.specs.Codes.{kmerCode, codesTo, codes, codeAt, occurrences, codeTotal, codeMatch}
 use Rattle.rules.proofs.Tests.{tests, by-test, tested, T-true, T-false, Three, below, equal, above, three}
-use Rattle.rules.proofs.ListLaws.{countTo-same}
+use Rattle.rules.proofs.ListLaws.{Placed, not-there, there, placed, countTo-same}
 
 -- ---- the same letters
 
@@ -52,6 +51,7 @@ pub record KmerOf (k : ℕ) (s : List ℕ) (i : ℕ) (x : List ℕ) : Type 0 whe
   pub to : i ≤ places k s
   pub bases : T (allBases x)
   pub long : length x ≡ k
+  pub letters : x ≡ lettersAt k s i
 
 -- the letters at a place are k
 letters-long : (k : ℕ) (s : List ℕ) (i : ℕ) → 1 ≤ i → i ≤ places k s → length (lettersAt k s i) ≡ k
@@ -67,7 +67,7 @@ unfolding kmerAt
 kmer-or-none k s i =
     by-test (OrNone (KmerOf k s i)) (leb 1 i && leb i (places k s) && allBases (lettersAt k s i)) (some (lettersAt k s i)) none
     (λ t. let h = simp tests at t in
-    record { from = h .0 .0; to = h .0 .1; bases = h .1; long = letters-long k s i (h .0 .0) (h .0 .1) }) (λ _. tt)
+    record { from = h .0 .0; to = h .0 .1; bases = h .1; long = letters-long k s i (h .0 .0) (h .0 .1); letters = refl }) (λ _. tt)
 
 pub kmer-of : (k : ℕ) (s : List ℕ) (i : ℕ) (x : List ℕ) → kmerAt k s i ≡ some x → KmerOf k s i x
 kmer-of k s i x e = subst (OrNone (KmerOf k s i)) e (kmer-or-none k s i)
@@ -81,23 +81,17 @@ kmer-place k s i y t = go (kmerAt k s i) refl t
     go none e u = absurd u
     go (some x) e u = let h = kmer-of k s i x e in (h .from, h .to)
 
--- ---- packing
-
--- what a search in a list finds: nothing, or the place of x
-data Placed (n missing x : ℕ) (ys : List ℕ) (r : ℕ) : Type 0 where
-  not-there : r ≡ missing → Placed n missing x ys r
-  there : (p : ℕ) → r ≡ n + p → getD ys p 0 ≡ x → Placed n missing x ys r
-
-placed : (n missing x : ℕ) (ys : List ℕ) → Placed n missing x ys (placeFrom n missing x ys)
-unfolding placeFrom
-placed n missing x [] = not-there refl
-placed n missing x (y ∷ ys) =
-    by-test (Placed n missing x (y ∷ ys)) (eqb x y) n (placeFrom (suc n) missing x ys)
-    (λ t. there 0 (sym (add-zero n)) (sym (simp tests at t))) (λ _. later (placed (suc n) missing x ys))
+-- two places with the same k-mer have the same k letters
+pub kmer-letters : (k : ℕ) (s t : List ℕ) (i j : ℕ) → T (sameKmer (kmerAt k s i) (kmerAt k t j)) → lettersAt k s i ≡ lettersAt k t j
+unfolding sameKmer
+kmer-letters k s t i j h = go (kmerAt k s i) (kmerAt k t j) refl refl h
   where
-    later : {r : ℕ} → Placed (suc n) missing x ys r → Placed n missing x (y ∷ ys) r
-    later (not-there e) = not-there e
-    later (there p e h) = there (suc p) (omega arith) h
+    go : (o p : Option (List ℕ)) → kmerAt k s i ≡ o → kmerAt k t j ≡ p → T (sameKmer o p) → lettersAt k s i ≡ lettersAt k t j
+    go none p e f u = absurd u
+    go (some x) none e f u = absurd u
+    go (some x) (some y) e f u = sym (kmer-of k s i x e .letters) ∙ same-letters x y u ∙ kmer-of k t j y f .letters
+
+-- ---- packing
 
 -- a base's two bits give back its letter
 base-letter : (x : ℕ) → baseOf x < 4 → getD (text "ACGT") (baseOf x) 0 ≡ x
@@ -106,7 +100,7 @@ base-letter x h = go (placed 0 4 x (text "ACGT"))
   where
     go : Placed 0 4 x (text "ACGT") (baseOf x) → getD (text "ACGT") (baseOf x) 0 ≡ x
     go (not-there e) = absurd (omega arith)
-    go (there p e g) = let q : baseOf x ≡ p = omega arith in ap (λ (n : ℕ). getD (text "ACGT") n 0) q ∙ g
+    go (there p e l g) = let q : baseOf x ≡ p = omega arith in ap (λ (n : ℕ). getD (text "ACGT") n 0) q ∙ g
 
 base-one : (x y : ℕ) → baseOf x < 4 → baseOf x ≡ baseOf y → x ≡ y
 base-one x y h e = sym (base-letter x h) ∙ ap (λ (n : ℕ). getD (text "ACGT") n 0) e ∙ base-letter y (omega arith)

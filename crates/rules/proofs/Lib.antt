@@ -1,5 +1,7 @@
 pub mod Tests
+pub mod Computed
 pub mod ListLaws
+pub mod Letters
 pub mod LeftExtensions
 pub mod Kmers
 pub mod MatchList
@@ -10,4 +12,6 @@ pub mod Sweeps
 pub mod Jobs
 pub mod Bounds
 pub mod Listings
+pub mod Strands
+pub mod Outcomes
 pub mod Theorems

@@ -1,16 +1,32 @@
--- What keeping, counting, summing, taking the largest and laying out obey, each by recursion on the list or the number. Assumes nothing.
+-- What searching, keeping, counting, summing, taking the largest and laying out obey, each by recursion on the list or the number. Assumes nothing.
 use mathlib.Core.Path.{_≡_, refl, sym, ap, subst, subst⁻¹, _∙_}
 use mathlib.Core.Logic.{_⊎_, inl, inr}
 use mathlib.Core.Bool.{Bool, true, false, cond}
-use mathlib.Core.List.{List, [], _∷_, _++_, map, List·Memᴰ, List·Memᴰ·head, List·Memᴰ·tail, append-nil, append-assoc}
+use mathlib.Core.List.{List, [], _∷_, _++_, map, List·Memᴰ, List·Memᴰ·head, List·Memᴰ·tail, List·Memᴰ·not-nil, List·Memᴰ·append-cases, append-nil, append-assoc}
 use Prim.Native.Nat.{ℕ, zero, suc, _+_, _*_, _≤_, _<_, zero-le, max}
-use native.Mathlib.Nat.{le-trans, le-of-suc-le-suc, not-suc-le-zero}
+use native.Mathlib.Nat.{add-zero, le-trans, le-of-suc-le-suc, not-suc-le-zero}
 use native.Mathlib.Omega.{arith}
-use lib.Dec.{T}
+use lib.Dec.{T, eqb}
 use lib.ListN.{length, getD, take, drop, length-append, take-append-drop, List·getD-append}
 use lib.Seq.{getD-append-add}
-use Rattle.rules.specs.Lists.{keep, count, sumOf, countTo, largestTo, laid}
-use Rattle.rules.proofs.Tests.{by-test, tested, to-suc, T-true, T-false}
+use Rattle.rules.specs.Lists.{placeFrom, keep, count, sumOf, countTo, largestTo, largestOf, laid}
+use Rattle.rules.proofs.Tests.{tests, by-test, tested, to-suc, T-true, T-false}
+
+-- what a search in a list finds: nothing, or the place of x
+pub data Placed (n missing x : ℕ) (ys : List ℕ) (r : ℕ) : Type 0 where
+  not-there : r ≡ missing → Placed n missing x ys r
+  there : (p : ℕ) → r ≡ n + p → p < length ys → getD ys p 0 ≡ x → Placed n missing x ys r
+
+pub placed : (n missing x : ℕ) (ys : List ℕ) → Placed n missing x ys (placeFrom n missing x ys)
+unfolding placeFrom
+placed n missing x [] = not-there refl
+placed n missing x (y ∷ ys) =
+    by-test (Placed n missing x (y ∷ ys)) (eqb x y) n (placeFrom (suc n) missing x ys)
+    (λ t. there 0 (sym (add-zero n)) (omega arith) (sym (simp tests at t))) (λ _. later (placed (suc n) missing x ys))
+  where
+    later : {r : ℕ} → Placed (suc n) missing x ys r → Placed n missing x (y ∷ ys) r
+    later (not-there e) = not-there e
+    later (there p e l h) = there (suc p) (omega arith) (omega arith) h
 
 pub keep-append : {A : Type 0} (f : A → Bool) (xs ys : List A) → keep f (xs ++ ys) ≡ keep f xs ++ keep f ys
 unfolding keep
@@ -139,10 +155,46 @@ unfolding sumOf
 sumOf-le f n [] h = zero-le
 sumOf-le f n (x ∷ xs) h = omega (arith, h x (List·Memᴰ·head refl), sumOf-le f n xs (λ y m. h y (List·Memᴰ·tail m)))
 
+pub sumOf-times : {A : Type 0} (f g : A → ℕ) (n : ℕ) (xs : List A) → ((x : A) → f x ≤ g x * n) → sumOf f xs ≤ sumOf g xs * n
+unfolding sumOf
+sumOf-times f g n [] h = zero-le
+sumOf-times f g n (x ∷ xs) h = let a = sumOf-times f g n xs h in let b = h x in omega arith
+
+pub largestOf-le : {A : Type 0} (f : A → ℕ) (m : ℕ) (xs : List A) → ((x : A) → f x ≤ m) → largestOf f xs ≤ m
+unfolding largestOf
+largestOf-le f m [] h = zero-le
+largestOf-le f m (x ∷ xs) h = let a = largestOf-le f m xs h in let b = h x in omega arith
+
+pub largestOf-ge : {A : Type 0} (f : A → ℕ) (xs : List A) (x : A) → List·Memᴰ x xs → f x ≤ largestOf f xs
+unfolding largestOf
+largestOf-ge {A} f xs x (List·Memᴰ·head {x = y} {xs = ys} e) = subst (λ (z : A). f z ≤ max (largestOf f ys) (f y)) (sym e) (omega arith)
+largestOf-ge f xs x (List·Memᴰ·tail {x = y} {xs = ys} m) = let a = largestOf-ge f ys x m in omega arith
+
 pub countTo-same : (f g : ℕ → Bool) (n : ℕ) → ((i : ℕ) → f i ≡ g i) → countTo f n ≡ countTo g n
 unfolding countTo
 countTo-same f g zero h = refl
 countTo-same f g (suc n) h = rw (countTo-same f g n h, h (suc n))
+
+-- what the elements of a mapped list stand for
+pub laid-map : {A B C : Type 0} (f : A → B) (g : B → List C) (xs : List A) → laid g (map f xs) ≡ laid (λ x. g (f x)) xs
+unfolding laid
+laid-map f g [] = refl
+laid-map {C = C} f g (x ∷ xs) = ap {B = List C} (λ l. g (f x) ++ l) (laid-map f g xs)
+
+-- an element of a list laid out comes from one that was laid out
+pub laid-in : {A B : Type 0} (g : A → List B) (xs : List A) (y : B) → List·Memᴰ y (laid g xs) → (x : A) × List·Memᴰ x xs × List·Memᴰ y (g x)
+unfolding laid
+laid-in g [] y m = absurd (List·Memᴰ·not-nil m)
+laid-in {A} {B} g (x ∷ xs) y m = go (List·Memᴰ·append-cases (g x) m) (laid-in g xs y)
+  where
+    go : List·Memᴰ y (g x) ⊎ List·Memᴰ y (laid g xs) → (List·Memᴰ y (laid g xs) → (z : A) × List·Memᴰ z xs × List·Memᴰ y (g z)) → (z : A) × List·Memᴰ z (x ∷ xs) × List·Memᴰ y (g z)
+    go (inl n) ih = (x, List·Memᴰ·head refl, n)
+    go (inr n) ih = let r = ih n in (r .0, List·Memᴰ·tail (r .1), r .2)
+
+pub laid-few : {A B : Type 0} (g : A → List B) (n : ℕ) (xs : List A) → ((x : A) → length (g x) ≤ n) → length (laid g xs) ≤ length xs * n
+unfolding laid
+laid-few g n [] h = zero-le
+laid-few g n (x ∷ xs) h = omega (arith, length-append (g x) (laid g xs), h x, laid-few g n xs h)
 
 -- ---- elements laid out in numbers, n for each
 

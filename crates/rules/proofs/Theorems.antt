@@ -1,11 +1,13 @@
--- THE THEOREMS about the definitions of specs/, of every job: settings c, a first and a second sequence. Each is proved in the file that its line cites.
--- Assumes nothing.
+-- THE THEOREMS about the definitions of specs/, of every sweep: settings c, a first sequence, and a second one as it stands on the strand that is swept;
+-- and about the strands. Each is proved in the file that its line cites. Assumes nothing.
 use mathlib.Core.Path.{_≡_, sym, _∙_}
 use mathlib.Core.Logic.{_↔_}
-use mathlib.Core.List.{List, [], map, List·Memᴰ}
-use Prim.Native.Nat.{ℕ, _+_, _-_, _*_, _≤_, min}
+use mathlib.Core.List.{List, [], _++_, map, List·Memᴰ}
+use Prim.Native.Nat.{ℕ, _+_, _-_, _*_, _≤_, _<_, min}
 use lib.Dec.{T}
 use Rattle.rules.specs.declared.Settings.{Settings}
+use Rattle.rules.specs.Lists.{text}
+use Rattle.rules.specs.Letters.{codeOf, complement, reverseComplement, badPlace}
 use Rattle.rules.specs.Places.{kmerAt, packed}
 use Rattle.rules.specs.Matches.{Cell, isMatch, matches}
 use mathlib.Core.Option.{some}
@@ -14,11 +16,14 @@ use Rattle.rules.specs.Chains.{Chain, Heaviest, Predecessor, Start}
 use Rattle.rules.specs.Records.{Record, records}
 use Rattle.rules.specs.Listing.{listing, ends, Listed, Ordered}
 use Rattle.rules.specs.Rooms.{held, Held, matchTotal, workNeed, linkTotal}
+use Rattle.rules.specs.Strands.{onStrand, strands, turned, strandEntries, entries, ReadsTurned, Within, largerNeed}
+use Rattle.rules.proofs.Letters.{complement-table, complement-twice}
 use Rattle.rules.proofs.Kmers.{kmer-of, packed-same, match-by-code}
 use Rattle.rules.proofs.Starts.{heaviest-one, predecessor-one, start-one}
 use Rattle.rules.proofs.Jobs.{match-in, match-has, record-cells, weight-heaviest, start-right, start-of-heaviest}
 use Rattle.rules.proofs.Listings.{listing-in, listing-has, listing-ordered, held-in, held-has, held-ordered}
 use Rattle.rules.proofs.Bounds.{W-bound, links-bound, no-matches, no-links}
+use Rattle.rules.proofs.Strands.{turned-twice, place-twice, reads-turned, reverse-within, need-of-each, forward, both, forward-first}
 
 module _ (c : Settings) (first second : List ℕ) where
   -- ---- matches
@@ -98,3 +103,35 @@ module _ (c : Settings) (first second : List ℕ) where
   -- "With a = 1 there are no matches, and it is 0."
   pub none-at-one : c .a ≡ 1 → (matches c first second ≡ []) × (linkTotal c first second ≡ 0)
   none-at-one e = (no-matches c first second e, no-links c first second e)
+
+-- ---- strands
+
+-- "A letter's complement reverses the four bits of its code, so R becomes Y and N stays": A and T, C and G, M and K, R and Y, V and B, H and D exchange,
+-- and S, W and N stay
+pub complements : map complement (text "ACMGRSVTWYHKDBN") ≡ text "TGKCYSBAWRDMHVN"
+complements = complement-table
+
+-- turning twice is the identity: of a letter, of a sequence of letters, and of a place
+pub letter-turned-twice : (x : ℕ) → 0 < codeOf x → complement (complement x) ≡ x
+letter-turned-twice = complement-twice
+
+pub sequence-turned-twice : (s : List ℕ) → badPlace s ≡ 0 → reverseComplement (reverseComplement s) ≡ s
+sequence-turned-twice = turned-twice
+
+pub place-turned-twice : (letters p : ℕ) → p ≤ letters + 1 → turned letters (turned letters p) ≡ p
+place-turned-twice = place-twice
+
+-- a reverse entry can be checked by eye: read on the reverse strand, its letters are those of the first sequence's k-mers at its ends
+pub reverse-by-eye : (c : Settings) (first second entry : List ℕ) → List·Memᴰ entry (strandEntries c first second 1) → ReadsTurned (c .k) first second entry
+reverse-by-eye = reads-turned
+
+pub reverse-inside : (c : Settings) (first second : List ℕ) → 1 ≤ c .k → (entry : List ℕ) → List·Memᴰ entry (strandEntries c first second 1) → Within second entry
+reverse-inside = reverse-within
+
+-- "forward entries come first": a job over both strands has those of the forward job, and then the reverse ones
+pub forward-entries-first : (k b a m : ℕ) (first second : List ℕ) → entries (both k b a m) first second ≡ entries (forward k b a m) first second ++ strandEntries (both k b a m) first second 1
+forward-entries-first = forward-first
+
+-- "Work room must hold the larger W": no strand of a job needs more
+pub larger-need : (c : Settings) (first second : List ℕ) (strand : ℕ) → List·Memᴰ strand (strands c) → workNeed c first (onStrand strand second) ≤ largerNeed c first second
+larger-need = need-of-each

@@ -7,7 +7,7 @@ use mathlib.Core.List.{List, [], _∷_, List·Memᴰ, List·Memᴰ·head, List·
 use Prim.Native.Nat.{ℕ, _≤_, _<_}
 use native.Mathlib.Omega.{arith}
 use lib.Dec.{T, ltb}
-use Rattle.rules.specs.Matches.{Cell, cell}
+use Rattle.rules.specs.Matches.{Cell}
 use Rattle.rules.specs.Chains.{leftExtension}
 use Rattle.rules.specs.Records.{Record, beats, better, pick}
 use Rattle.rules.proofs.Tests.{tests, by-test, tested, T-true, T-false}

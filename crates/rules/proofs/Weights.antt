@@ -5,16 +5,16 @@ use mathlib.Core.Logic.{_⊎_, inl, inr}
 use mathlib.Core.Bool.{Bool, cond}
 use mathlib.Core.Option.{Option, none, some}
 use mathlib.Core.List.{List, [], _∷_, _++_, map, List·Memᴰ, List·Memᴰ·head, List·Memᴰ·tail, List·Memᴰ·cases-cons, List·Memᴰ·append-cases, Memᴰ·append-left, Memᴰ·append-right, List·Memᴰ·eq-of-singleton, append-nil, append-assoc, map-append}
-use Prim.Native.Nat.{ℕ, suc, _≤_, _<_, zero-le, suc-le-suc}
+use Prim.Native.Nat.{ℕ, suc, _+_, _≤_, _<_, zero-le, suc-le-suc}
 use native.Mathlib.Nat.{le-refl, le-of-eq, le-trans}
 use native.Mathlib.Omega.{arith}
 use lib.Dec.{T}
-use Rattle.rules.specs.Matches.{Cell, cell}
+use Rattle.rules.specs.Matches.{Cell}
 use Rattle.rules.specs.Chains.{leftExtension, Chain, one, more}
 use Rattle.rules.specs.Records.{Record, beats, better, pick, recordAfter, recordOf, recordsFrom}
 use Rattle.rules.specs.Listing.{Ordered}
 use Rattle.rules.proofs.Tests.{tests, by-test}
-use Rattle.rules.proofs.LeftExtensions.{not-self, not-after}
+use Rattle.rules.proofs.LeftExtensions.{extend-facts, not-self, not-after}
 
 beats-le : (x y : Record) → T (beats x y) → y .weight ≤ x .weight
 unfolding beats
@@ -86,6 +86,23 @@ module _ (b : ℕ) (c : Cell) where
 pub chain-hit : {b : ℕ} {hit : Cell → Bool} {p y : Cell} {n : ℕ} → Chain b hit p y n → T (hit y)
 chain-hit (one h) = h
 chain-hit (more ch e h) = h
+
+-- a chain goes down and to the right, by at least one a match
+pub record Grown (p y : Cell) (n : ℕ) : Type 0 where
+  pub rows : p .row ≤ y .row
+  pub columns : p .column ≤ y .column
+  pub weight : n + p .row + p .column ≤ y .row + y .column + 1
+
+pub chain-grown : {b : ℕ} {hit : Cell → Bool} {p y : Cell} {n : ℕ} → Chain b hit p y n → Grown p y n
+chain-grown (one h) = record { rows = omega arith; columns = omega arith; weight = omega arith }
+chain-grown {b} (more {x = x} {y = y} c l h) =
+    let g = chain-grown c in
+    let e = extend-facts b x y l in
+    record {
+      rows = (let r = g .rows in let q = e .row-le in omega arith);
+      columns = (let r = g .columns in let q = e .column-le in omega arith);
+      weight = (let r = g .weight in let q = e .moved in omega arith);
+    }
 
 -- a record is right: a chain from its start has its weight, and no chain that ends at its cell has more
 pub record Right (b : ℕ) (hit : Cell → Bool) (x : Record) : Type 0 where

@@ -1,5 +1,5 @@
--- Document 01, "Numbers the registry may receive": the whole outcome of the compare job and of the stopped sweep, every number of the
--- rooms with it, and the reply over the C boundary. Assumes nothing.
+-- Document 01, "Numbers the registry may receive", with CR 1: the whole outcome of the compare job and of the stopped sweep, every number of the rooms
+-- with it, and the reply over the C boundary. Assumes nothing.
 use mathlib.Core.Bool.{Bool, cond, _||_}
 use mathlib.Core.List.{List, [], _∷_}
 use Prim.Native.Nat.{ℕ, _+_}
@@ -10,8 +10,9 @@ use Rattle.rules.specs.declared.Answer.{Answer}
 use Rattle.rules.specs.Lists.{laid, thenZeros, zeros}
 use Rattle.rules.specs.Letters.{badPlace}
 use Rattle.rules.specs.Places.{places}
-use Rattle.rules.specs.Listing.{listing, entryNumbers}
+use Rattle.rules.specs.Records.{Record}
 use Rattle.rules.specs.Rooms.{workHolds, listHolds, recordNumbers, held, matchTotal, workNeed, linkTotal}
+use Rattle.rules.specs.Strands.{onStrand, entries, matchSum, largerNeed, linkSum}
 
 -- "The answer is a number, a sequence (0, 1 or 2), a detail, and four tallies", and both rooms afterwards
 pub record Outcome : Type 0 where
@@ -24,19 +25,10 @@ unfoldable pub refusal : ℕ → ℕ → ℕ → Answer
 refusal number sequence detail =
     record { number = number; sequence = sequence; detail = detail; listed = 0; matches = 0; widest = 0; links = 0 }
 
--- done, with so many entries listed or records held
-unfoldable pub done : Settings → List ℕ → List ℕ → ℕ → Answer
-unfolding matchTotal workNeed linkTotal
-done c first second listed =
-    record {
-      number = 0;
-      sequence = 0;
-      detail = 0;
-      listed = listed;
-      matches = matchTotal c first second;
-      widest = workNeed c first second;
-      links = linkTotal c first second;
-    }
+-- done, with the entries listed or the records held, M, W and the link total
+unfoldable pub done : ℕ → ℕ → ℕ → ℕ → Answer
+done listed matches widest links =
+    record { number = 0; sequence = 0; detail = 0; listed = listed; matches = matches; widest = widest; links = links }
 
 -- a line of a table: when it applies, and what then
 pub record Line (A : Type 0) : Type 0 where
@@ -54,7 +46,7 @@ firstOf (l ∷ ls) a = let r = firstOf ls a in cond (l .when) (l .then) r
 unfoldable pub outside : ℕ → ℕ → ℕ → Bool
 outside low high n = ltb n low || ltb high n
 
--- 1 to 6, in order
+-- 1 to 6, in order, and 9: "strand not 0 or 1, checked after 4"
 unfoldable pub checks : Settings → List ℕ → List ℕ → List (Line Answer)
 unfolding refusal outside badPlace
 checks c first second =
@@ -62,6 +54,7 @@ checks c first second =
     ∷ on (outside 1 1024 (c .b)) (refusal 2 0 0)
     ∷ on (outside 1 1024 (c .a)) (refusal 3 0 0)
     ∷ on (outside 0 16384 (c .m)) (refusal 4 0 0)
+    ∷ on (outside 0 1 (c .strand)) (refusal 9 0 0)
     ∷ on (ltb 16384 (length first)) (refusal 5 1 0)
     ∷ on (ltb 16384 (length second)) (refusal 5 2 0)
     ∷ on (ltb 0 (badPlace first)) (refusal 6 1 (badPlace first))
@@ -84,38 +77,47 @@ unfoldable pub zeroed : ℕ → ℕ → List ℕ → List ℕ → Outcome
 unfolding refusal zeros
 zeroed number detail work list = record { answer = refusal number 0 detail; work = zeros work; list = zeros list }
 
--- the compare job: "Checks go from 1 to 8". Done: "list: entries, then zeros; work: zeros"
+-- a compare job with these entries and tallies: 7, then 8. Done: "list: entries, then zeros; work: zeros"
+unfoldable pub comparing : List (List ℕ) → ℕ → ℕ → ℕ → List ℕ → List ℕ → Outcome
+unfolding firstOf zeroed workHolds listHolds done zeros thenZeros laid
+comparing entries matches need links work list =
+    firstOf
+    (on (ltb (workHolds work) need) (zeroed 7 need work list) ∷ on (ltb (listHolds list) (length entries)) (zeroed 8 (length entries) work list) ∷ [])
+    (record {
+      answer = done (length entries) matches need links;
+      work = zeros work;
+      list = thenZeros (laid (λ entry. entry) entries) (length list);
+    })
+
+-- "Checks go from 1 to 8"; a job over both strands is "refused for work room exactly below the larger need"
 unfoldable pub compared : Settings → List ℕ → List ℕ → List ℕ → List ℕ → Outcome
-unfolding afterChecks firstOf zeroed workHolds listHolds workNeed listing done zeros thenZeros laid entryNumbers
+unfolding afterChecks comparing entries matchSum largerNeed linkSum
 compared c first second work list =
     afterChecks c first second work list
-    (firstOf
-    (on (ltb (workHolds work) (workNeed c first second)) (zeroed 7 (workNeed c first second) work list)
-    ∷ on (ltb (listHolds list) (length (listing c first second))) (zeroed 8 (length (listing c first second)) work list)
-    ∷ [])
-    (record {
-      answer = done c first second (length (listing c first second));
-      work = zeros work;
-      list = thenZeros (laid (entryNumbers (c .k)) (listing c first second)) (length list);
-    }))
+    (comparing (entries c first second) (matchSum c first second) (largerNeed c first second) (linkSum c first second) work list)
 
--- the stopped sweep: "1 to 7, then 19", with no list room. Done: the records held, "by row then column from the front, and zeros after them"
+-- a sweep of so many rows, stopped after row r with these records and tallies: 7, then 19, and no list room. Done: the records, "by row then column from
+-- the front, and zeros after them"
+unfoldable pub stopping : List Record → ℕ → ℕ → ℕ → ℕ → List ℕ → ℕ → Outcome
+unfolding firstOf zeroed workHolds done thenZeros laid recordNumbers
+stopping records matches need links rows work r =
+    firstOf
+    (on (ltb (workHolds work) need) (zeroed 7 need work []) ∷ on (ltb rows r) (zeroed 19 rows work []) ∷ [])
+    (record { answer = done (length records) matches need links; work = thenZeros (laid recordNumbers records) (length work); list = [] })
+
+-- of two sequences
+unfoldable pub stoppedSweep : Settings → List ℕ → List ℕ → List ℕ → ℕ → Outcome
+unfolding stopping held matchTotal workNeed linkTotal places
+stoppedSweep c first second work r =
+    stopping (held c first second r) (matchTotal c first second) (workNeed c first second) (linkTotal c first second) (places (c .k) first) work r
+
+-- the stopped sweep: "1 to 7, then 19". It names "one strand, 0 forward or 1 reverse, with its own need and tallies; only entries are turned back"
 unfoldable pub stopped : Settings → List ℕ → List ℕ → List ℕ → ℕ → Outcome
-unfolding afterChecks firstOf zeroed workHolds workNeed places done held thenZeros laid recordNumbers
-stopped c first second work r =
-    afterChecks c first second work []
-    (firstOf
-    (on (ltb (workHolds work) (workNeed c first second)) (zeroed 7 (workNeed c first second) work [])
-    ∷ on (ltb (places (c .k) first) r) (zeroed 19 (places (c .k) first) work [])
-    ∷ [])
-    (record {
-      answer = done c first second (length (held c first second r));
-      work = thenZeros (laid recordNumbers (held c first second r)) (length work);
-      list = [];
-    }))
+unfolding afterChecks stoppedSweep onStrand
+stopped c first second work r = afterChecks c first second work [] (stoppedSweep c first (onStrand (c .strand) second) work r)
 
--- over the C boundary: "The reply is W, or 4,294,967,296 plus the refusal number 1 to 6."
+-- over the C boundary: "The reply is W, or 4,294,967,296 plus the refusal number 1 to 6.", or 9; the larger W "is reported, also over the C boundary"
 unfoldable pub replied : Settings → List ℕ → List ℕ → ℕ
-unfolding checked workNeed
+unfolding checked largerNeed
 replied c first second =
-    cond (eqb (checked c first second .number) 0) (workNeed c first second) (4294967296 + checked c first second .number)
+    cond (eqb (checked c first second .number) 0) (largerNeed c first second) (4294967296 + checked c first second .number)

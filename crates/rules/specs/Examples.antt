@@ -1,4 +1,4 @@
--- Document 01, "Examples in the registry", and what those leave open: whole answers and whole rooms. Assumes nothing.
+-- Document 01, "Examples in the registry", with CR 1's sixth number, and what those leave open: whole answers and whole rooms. Assumes nothing.
 use mathlib.Core.Path.{_≡_, refl}
 use mathlib.Core.List.{List, [], _∷_, map}
 use Prim.Native.Nat.{ℕ}
@@ -26,9 +26,17 @@ pub record Row : Type 0 where
 abbrev row : Question → Outcome → Row
 row q o = record { asked = q; given = o }
 
--- k, b, a and m
+-- k, b, a and m on the forward strand
 abbrev pub set : ℕ → ℕ → ℕ → ℕ → Settings
-set k b a m = record { k = k; b = b; a = a; m = m }
+set k b a m = record { k = k; b = b; a = a; m = m; strand = 0 }
+
+-- and on both; of the stopped sweep, on the reverse
+abbrev pub both : ℕ → ℕ → ℕ → ℕ → Settings
+both k b a m = record { k = k; b = b; a = a; m = m; strand = 1 }
+
+-- a strand that there is not
+abbrev pub no-strand : ℕ → ℕ → ℕ → ℕ → Settings
+no-strand k b a m = record { k = k; b = b; a = a; m = m; strand = 2 }
 
 -- a room of n numbers as it is lent, none of them zero, so that zeros are seen to be written
 abbrev room : ℕ → List ℕ
@@ -58,24 +66,24 @@ abbrev pub table : List Row
 unfolding text thenZeros
 table =
     row (compare-job (set 2 2 8 0) (text "ACCGT") (text "ACGGT") (room 100) (room 100))
-    (done 1 3 2 2 (none 100) (thenZeros (1 ∷ 5 ∷ 1 ∷ 5 ∷ 3 ∷ []) 100))
+    (done 1 3 2 2 (none 100) (thenZeros (1 ∷ 5 ∷ 1 ∷ 5 ∷ 3 ∷ 0 ∷ []) 100))
     ∷ row (compare-job (set 2 1 8 0) (text "ACCGT") (text "ACGGT") (room 100) (room 100))
-    (done 3 3 2 0 (none 100) (thenZeros (1 ∷ 2 ∷ 1 ∷ 2 ∷ 1 ∷ 3 ∷ 4 ∷ 2 ∷ 3 ∷ 1 ∷ 4 ∷ 5 ∷ 4 ∷ 5 ∷ 1 ∷ []) 100))
+    (done 3 3 2 0 (none 100) (thenZeros (1 ∷ 2 ∷ 1 ∷ 2 ∷ 1 ∷ 0 ∷ 3 ∷ 4 ∷ 2 ∷ 3 ∷ 1 ∷ 0 ∷ 4 ∷ 5 ∷ 4 ∷ 5 ∷ 1 ∷ 0 ∷ []) 100))
     ∷ row (compare-job (set 2 2 8 0) (text "ACCGT") (text "ACGGT") (room 16) (room 100))
-    (done 1 3 2 2 (none 16) (thenZeros (1 ∷ 5 ∷ 1 ∷ 5 ∷ 3 ∷ []) 100))
+    (done 1 3 2 2 (none 16) (thenZeros (1 ∷ 5 ∷ 1 ∷ 5 ∷ 3 ∷ 0 ∷ []) 100))
     ∷ row (compare-job (set 2 2 8 0) (text "ACCGT") (text "ACGGT") (room 15) (room 100))
     (refused 7 0 2 (none 15) (none 100))
     ∷ row (compare-job (set 1 1 6 0) (text "AAA") (text "AAA") (room 100) (room 100))
     (done 5 9 6 16 (none 100)
     (thenZeros
-    (1 ∷ 1 ∷ 1 ∷ 3 ∷ 3 ∷ 1 ∷ 2 ∷ 1 ∷ 3 ∷ 4 ∷ 1 ∷ 3 ∷ 1 ∷ 1 ∷ 3 ∷ 1 ∷ 3 ∷ 1 ∷ 2 ∷ 4 ∷ 1 ∷ 3 ∷ 1 ∷ 3 ∷ 5 ∷ []) 100))
+    (1 ∷ 1 ∷ 1 ∷ 3 ∷ 3 ∷ 0 ∷ 1 ∷ 2 ∷ 1 ∷ 3 ∷ 4 ∷ 0 ∷ 1 ∷ 3 ∷ 1 ∷ 1 ∷ 3 ∷ 0 ∷ 1 ∷ 3 ∷ 1 ∷ 2 ∷ 4 ∷ 0 ∷ 1 ∷ 3 ∷ 1 ∷ 3 ∷ 5 ∷ 0 ∷ []) 100))
     ∷ row (compare-job (set 1 1 5 0) (text "AAA") (text "AAA") (room 100) (room 100)) (done 0 0 0 0 (none 100) (none 100))
     ∷ row (compare-job (set 1 1 6 3) (text "AAA") (text "AAA") (room 100) (room 100))
-    (done 1 9 6 16 (none 100) (thenZeros (1 ∷ 3 ∷ 1 ∷ 3 ∷ 5 ∷ []) 100))
+    (done 1 9 6 16 (none 100) (thenZeros (1 ∷ 3 ∷ 1 ∷ 3 ∷ 5 ∷ 0 ∷ []) 100))
     ∷ row (compare-job (set 2 3 3 0) (text "ACNAC") (text "AC") (room 100) (room 100))
-    (done 2 2 2 1 (none 100) (thenZeros (1 ∷ 2 ∷ 1 ∷ 2 ∷ 1 ∷ 1 ∷ 5 ∷ 1 ∷ 2 ∷ 2 ∷ []) 100))
+    (done 2 2 2 1 (none 100) (thenZeros (1 ∷ 2 ∷ 1 ∷ 2 ∷ 1 ∷ 0 ∷ 1 ∷ 5 ∷ 1 ∷ 2 ∷ 2 ∷ 0 ∷ []) 100))
     ∷ row (compare-job (set 2 2 3 0) (text "ACNAC") (text "AC") (room 100) (room 100))
-    (done 2 2 1 0 (none 100) (thenZeros (1 ∷ 2 ∷ 1 ∷ 2 ∷ 1 ∷ 4 ∷ 5 ∷ 1 ∷ 2 ∷ 1 ∷ []) 100))
+    (done 2 2 1 0 (none 100) (thenZeros (1 ∷ 2 ∷ 1 ∷ 2 ∷ 1 ∷ 0 ∷ 4 ∷ 5 ∷ 1 ∷ 2 ∷ 1 ∷ 0 ∷ []) 100))
     ∷ row (compare-job (set 1 1 1 0) [] [] [] []) (done 0 0 0 0 [] [])
     ∷ row (stopped-sweep (set 2 2 8 0) (text "ACCGT") (text "ACGGT") (room 100) 3)
     (done 2 3 2 2 (thenZeros (1 ∷ 1 ∷ 1 ∷ 1 ∷ 1 ∷ 0 ∷ 0 ∷ 0 ∷ 3 ∷ 2 ∷ 2 ∷ 1 ∷ 1 ∷ 0 ∷ 0 ∷ 0 ∷ []) 100) [])
@@ -96,18 +104,18 @@ abbrev pub open-rows : List Row
 unfolding text thenZeros
 open-rows =
     -- a tie goes to the smaller column: the start is (2,1) and not (1,2)
-    row (compare-job (set 1 2 2 0) (text "ACG") (text "CAG") (room 24) (room 5)) (done 1 3 3 2 (none 24) (2 ∷ 3 ∷ 1 ∷ 3 ∷ 2 ∷ []))
+    row (compare-job (set 1 2 2 0) (text "ACG") (text "CAG") (room 24) (room 6)) (done 1 3 3 2 (none 24) (2 ∷ 3 ∷ 1 ∷ 3 ∷ 2 ∷ 0 ∷ []))
     -- of the fifteen letters only A, C, G and T form k-mers
-    ∷ row (compare-job (set 1 1 8 0) (text "ACMGRSVTWYHKDBN") (text "ACMGRSVTWYHKDBN") (room 16) (room 17))
-    (done 3 4 2 1 (none 16) (thenZeros (1 ∷ 2 ∷ 1 ∷ 2 ∷ 2 ∷ 4 ∷ 4 ∷ 4 ∷ 4 ∷ 1 ∷ 8 ∷ 8 ∷ 8 ∷ 8 ∷ 1 ∷ []) 17))
+    ∷ row (compare-job (set 1 1 8 0) (text "ACMGRSVTWYHKDBN") (text "ACMGRSVTWYHKDBN") (room 16) (room 20))
+    (done 3 4 2 1 (none 16) (thenZeros (1 ∷ 2 ∷ 1 ∷ 2 ∷ 2 ∷ 0 ∷ 4 ∷ 4 ∷ 4 ∷ 4 ∷ 1 ∷ 0 ∷ 8 ∷ 8 ∷ 8 ∷ 8 ∷ 1 ∷ 0 ∷ []) 20))
     -- no k-mer runs across an N
-    ∷ row (compare-job (set 2 1 8 0) (text "ANC") (text "AC") (room 8) (room 5)) (done 0 0 0 0 (none 8) (none 5))
+    ∷ row (compare-job (set 2 1 8 0) (text "ANC") (text "AC") (room 8) (room 6)) (done 0 0 0 0 (none 8) (none 6))
     -- ends are compared as numbers: 9 before 10
-    ∷ row (compare-job (set 1 1 2 0) (text "NNNNNNNNAC") (text "CNA") (room 16) (room 10))
-    (done 2 2 2 0 (none 16) (9 ∷ 9 ∷ 3 ∷ 3 ∷ 1 ∷ 10 ∷ 10 ∷ 1 ∷ 1 ∷ 1 ∷ []))
+    ∷ row (compare-job (set 1 1 2 0) (text "NNNNNNNNAC") (text "CNA") (room 16) (room 12))
+    (done 2 2 2 0 (none 16) (9 ∷ 9 ∷ 3 ∷ 3 ∷ 1 ∷ 0 ∷ 10 ∷ 10 ∷ 1 ∷ 1 ∷ 1 ∷ 0 ∷ []))
     -- both spans count: at m 2 an entry with a span of 1 is not listed
-    ∷ row (compare-job (set 1 1 6 2) (text "AAA") (text "AAA") (room 48) (room 15))
-    (done 3 9 6 16 (none 48) (1 ∷ 2 ∷ 1 ∷ 3 ∷ 4 ∷ 1 ∷ 3 ∷ 1 ∷ 2 ∷ 4 ∷ 1 ∷ 3 ∷ 1 ∷ 3 ∷ 5 ∷ []))
+    ∷ row (compare-job (set 1 1 6 2) (text "AAA") (text "AAA") (room 48) (room 18))
+    (done 3 9 6 16 (none 48) (1 ∷ 2 ∷ 1 ∷ 3 ∷ 4 ∷ 0 ∷ 1 ∷ 3 ∷ 1 ∷ 2 ∷ 4 ∷ 0 ∷ 1 ∷ 3 ∷ 1 ∷ 3 ∷ 5 ∷ 0 ∷ []))
     -- the stopped sweep after row 0, and after the last row
     ∷ row (stopped-sweep (set 2 2 8 0) (text "ACCGT") (text "ACGGT") (room 17) 0) (done 0 3 2 2 (none 17) [])
     ∷ row (stopped-sweep (set 2 2 8 0) (text "ACCGT") (text "ACGGT") (room 17) 4)
@@ -117,6 +125,37 @@ open-rows =
 pub open-examples : map (λ (r : Row). outcome (r .asked)) open-rows ≡ map (λ (r : Row). r .given) open-rows
 unfolding outcome text thenZeros
 open-examples = refl
+
+-- CR 1: both strands
+abbrev pub strand-rows : List Row
+unfolding text thenZeros
+strand-rows =
+    -- P1 over both: 4 k-mers of ACCGT stand turned in ACGGT, and the forward entry comes first
+    row (compare-job (both 2 2 8 0) (text "ACCGT") (text "ACGGT") (room 100) (room 100))
+    (done 2 7 3 7 (none 100) (thenZeros (1 ∷ 5 ∷ 1 ∷ 5 ∷ 3 ∷ 0 ∷ 1 ∷ 5 ∷ 1 ∷ 5 ∷ 4 ∷ 1 ∷ []) 100))
+    -- the turned sequence is ACCGN: its places 1 to 4 are reported as 2 to 5
+    ∷ row (compare-job (both 2 2 8 0) (text "ACCG") (text "NCGGT") (room 24) (room 12))
+    (done 2 4 3 3 (none 24) (3 ∷ 4 ∷ 2 ∷ 3 ∷ 1 ∷ 0 ∷ 1 ∷ 4 ∷ 2 ∷ 5 ∷ 3 ∷ 1 ∷ []))
+    ∷ row (compare-job (set 2 2 8 0) (text "ACCG") (text "NCGGT") (room 24) (room 12))
+    (done 1 1 1 0 (none 24) (thenZeros (3 ∷ 4 ∷ 2 ∷ 3 ∷ 1 ∷ 0 ∷ []) 12))
+    -- each strand has totals of its own: AA occurs twice on each, and three times in all
+    ∷ row (compare-job (both 2 1 2 0) (text "AA") (text "AATT") (room 8) (room 12))
+    (done 2 2 1 0 (none 8) (1 ∷ 2 ∷ 1 ∷ 2 ∷ 1 ∷ 0 ∷ 1 ∷ 2 ∷ 3 ∷ 4 ∷ 1 ∷ 1 ∷ []))
+    -- the larger W is that of the reverse strand, or of the forward
+    ∷ row (compare-job (both 1 1 8 4) (text "AAT") (text "TTT") (room 48) (room 6)) (done 0 9 6 11 (none 48) (none 6))
+    ∷ row (compare-job (both 1 1 8 0) (text "AAT") (text "TTT") (room 47) (room 42)) (refused 7 0 6 (none 47) (none 42))
+    ∷ row (compare-job (both 1 1 8 0) (text "TTA") (text "TTT") (room 47) (room 42)) (refused 7 0 6 (none 47) (none 42))
+    ∷ row (compare-job (both 1 1 8 0) (text "AAT") (text "TTT") (room 48) (room 41)) (refused 8 0 7 (none 48) (none 41))
+    -- a reverse sweep that is stopped has its own tallies, and its records are not turned back
+    ∷ row (stopped-sweep (both 2 2 8 0) (text "ACCG") (text "NCGGT") (room 24) 3)
+    (done 3 3 3 3 (1 ∷ 1 ∷ 1 ∷ 1 ∷ 1 ∷ 0 ∷ 0 ∷ 0 ∷ 2 ∷ 2 ∷ 2 ∷ 1 ∷ 1 ∷ 0 ∷ 0 ∷ 0 ∷ 3 ∷ 3 ∷ 3 ∷ 1 ∷ 1 ∷ 0 ∷ 0 ∷ 0 ∷ []) [])
+    ∷ row (stopped-sweep (both 1 1 8 0) (text "TTA") (text "TTT") (room 24) 2) (done 0 3 3 2 (none 24) [])
+    ∷ row (stopped-sweep (both 1 1 8 0) (text "TTA") (text "TTT") (room 23) 2) (refused 7 0 3 (none 23) [])
+    ∷ []
+
+pub strand-examples : map (λ (r : Row). outcome (r .asked)) strand-rows ≡ map (λ (r : Row). r .given) strand-rows
+unfolding outcome text thenZeros
+strand-examples = refl
 
 -- each refusal where all that come after it apply too, so that the first is given; and the settings at the ends of their ranges
 abbrev pub refusal-rows : List Row
@@ -135,15 +174,20 @@ refusal-rows =
     (refused 3 0 0 (room 3) (room 2))
     ∷ row (compare-job (set 31 1024 1024 16385) (replicate 16385 0) (replicate 16385 0) (room 3) (room 2))
     (refused 4 0 0 (room 3) (room 2))
-    ∷ row (compare-job (set 31 1024 1024 16384) (replicate 16385 0) (replicate 16385 0) (room 3) (room 2))
+    ∷ row (compare-job (no-strand 31 1024 1024 16385) (replicate 16385 0) (replicate 16385 0) (room 3) (room 2))
+    (refused 4 0 0 (room 3) (room 2))
+    ∷ row (compare-job (no-strand 31 1024 1024 16384) (replicate 16385 0) (replicate 16385 0) (room 3) (room 2))
+    (refused 9 0 0 (room 3) (room 2))
+    ∷ row (compare-job (both 31 1024 1024 16384) (replicate 16385 0) (replicate 16385 0) (room 3) (room 2))
     (refused 5 1 0 (room 3) (room 2))
     ∷ row (compare-job (set 31 1024 1024 16384) (text "a") (replicate 16385 0) (room 3) (room 2)) (refused 5 2 0 (room 3) (room 2))
     ∷ row (compare-job (set 1 1 6 0) (text "AaA") (text "AAU") (room 3) (room 2)) (refused 6 1 2 (room 3) (room 2))
     ∷ row (compare-job (set 1 1 6 0) (text "AAA") (text "AAU") (room 3) (room 2)) (refused 6 2 3 (room 3) (room 2))
-    ∷ row (compare-job (set 1 1 6 0) (text "AAA") (text "AAA") (room 47) (room 24)) (refused 7 0 6 (none 47) (none 24))
-    ∷ row (compare-job (set 1 1 6 0) (text "AAA") (text "AAA") (room 48) (room 24)) (refused 8 0 5 (none 48) (none 24))
+    ∷ row (compare-job (set 1 1 6 0) (text "AAA") (text "AAA") (room 47) (room 29)) (refused 7 0 6 (none 47) (none 29))
+    ∷ row (compare-job (set 1 1 6 0) (text "AAA") (text "AAA") (room 48) (room 29)) (refused 8 0 5 (none 48) (none 29))
     ∷ row (stopped-sweep (set 0 1 6 0) (text "AAA") (text "AAA") (room 47) 4) (refused 1 0 0 (room 47) [])
     ∷ row (stopped-sweep (set 1 1 6 16385) (text "AAA") (text "AAA") (room 47) 4) (refused 4 0 0 (room 47) [])
+    ∷ row (stopped-sweep (no-strand 1 1 6 0) (text "AAA") (text "AAU") (room 47) 4) (refused 9 0 0 (room 47) [])
     ∷ row (stopped-sweep (set 1 1 6 0) (text "AAA") (text "AAU") (room 47) 4) (refused 6 2 3 (room 47) [])
     ∷ row (stopped-sweep (set 1 1 6 0) (text "AAA") (text "AAA") (room 47) 4) (refused 7 0 6 (none 47) [])
     ∷ row (stopped-sweep (set 1 1 6 0) (text "AAA") (text "AAA") (room 48) 4) (refused 19 0 3 (none 48) [])
@@ -151,8 +195,8 @@ refusal-rows =
     ∷ row (compare-job (set 1 1 1 0) (text "A") (text "C") (room 3) (room 2)) (done 0 0 0 0 (none 3) (none 2))
     ∷ row (compare-job (set 31 1024 1024 16384) (text "ACGTACGTACGTACGTACGTACGTACGTACG") (text "ACGTACGTACGTACGTACGTACGTACGTACG") (room 8) (room 2))
     (done 0 1 1 0 (none 8) (none 2))
-    ∷ row (compare-job (set 31 1024 1024 31) (text "ACGTACGTACGTACGTACGTACGTACGTACG") (text "ACGTACGTACGTACGTACGTACGTACGTACG") (room 8) (room 5))
-    (done 1 1 1 0 (none 8) (1 ∷ 31 ∷ 1 ∷ 31 ∷ 1 ∷ []))
+    ∷ row (compare-job (set 31 1024 1024 31) (text "ACGTACGTACGTACGTACGTACGTACGTACG") (text "ACGTACGTACGTACGTACGTACGTACGTACG") (room 8) (room 6))
+    (done 1 1 1 0 (none 8) (1 ∷ 31 ∷ 1 ∷ 31 ∷ 1 ∷ 0 ∷ []))
     ∷ row (compare-job (set 31 1 1 0) (replicate 16384 78) [] (room 3) (room 2)) (done 0 0 0 0 (none 3) (none 2))
     ∷ []
 
@@ -160,15 +204,17 @@ pub refusal-examples : map (λ (r : Row). outcome (r .asked)) refusal-rows ≡ m
 unfolding outcome text
 refusal-examples = refl
 
--- the reply over the C boundary: W, and each refusal 1 to 6
+-- the reply over the C boundary: W, the larger W, and each refusal 1 to 4, 9, 5 and 6
 pub replies : replied (set 2 2 8 0) (text "ACCGT") (text "ACGGT")
+    ∷ replied (both 2 2 8 0) (text "ACCGT") (text "ACGGT")
     ∷ replied (set 0 0 0 16385) (text "a") (text "a")
     ∷ replied (set 1 0 0 16385) (text "a") (text "a")
     ∷ replied (set 1 1 0 16385) (text "a") (text "a")
-    ∷ replied (set 1 1 1 16385) (text "a") (text "a")
+    ∷ replied (no-strand 1 1 1 16385) (text "a") (text "a")
+    ∷ replied (no-strand 1 1 1 0) (text "a") (replicate 16385 0)
     ∷ replied (set 1 1 1 0) (text "a") (replicate 16385 0)
     ∷ replied (set 1 1 1 0) (text "a") (text "A")
     ∷ []
-    ≡ 2 ∷ 4294967297 ∷ 4294967298 ∷ 4294967299 ∷ 4294967300 ∷ 4294967301 ∷ 4294967302 ∷ []
+    ≡ 2 ∷ 3 ∷ 4294967297 ∷ 4294967298 ∷ 4294967299 ∷ 4294967300 ∷ 4294967305 ∷ 4294967301 ∷ 4294967302 ∷ []
 unfolding replied text
 replies = refl

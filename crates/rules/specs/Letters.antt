@@ -1,7 +1,8 @@
--- Document 01, "Settings and letters": the fifteen capitals and their codes. Letters are bytes, in ASCII. Assumes nothing.
+-- Document 01, "Settings and letters": the fifteen capitals and their codes. Document 02, CR 1: their complements. Letters are bytes, in ASCII. Assumes
+-- nothing.
 use mathlib.Core.Bool.{cond}
-use mathlib.Core.List.{List, [], _∷_}
-use Prim.Native.Nat.{ℕ, suc}
+use mathlib.Core.List.{List, [], _∷_, _++_}
+use Prim.Native.Nat.{ℕ, suc, _+_, _*_, _/_, _%_}
 use lib.Dec.{eqb}
 use lib.ListN.{getD}
 use Rattle.rules.specs.Lists.{text, placeFrom}
@@ -20,6 +21,21 @@ letterOf code = getD letterTable code 0
 unfoldable pub codeOf : ℕ → ℕ
 unfolding letterTable placeFrom
 codeOf x = placeFrom 0 0 x letterTable
+
+-- "A letter's complement reverses the four bits of its code": bit 1 exchanges with bit 8, and bit 2 with bit 4
+unfoldable pub reversedBits : ℕ → ℕ
+reversedBits code = code % 2 * 8 + code / 2 % 2 * 4 + code / 4 % 2 * 2 + code / 8 % 2
+
+-- the complement of a letter, 0 of a byte that is none
+unfoldable pub complement : ℕ → ℕ
+unfolding letterOf reversedBits codeOf
+complement x = letterOf (reversedBits (codeOf x))
+
+-- "the reverse complement": the complement of each letter, the last letter first
+unfoldable pub reverseComplement : List ℕ → List ℕ
+unfolding complement
+reverseComplement [] = []
+reverseComplement (x ∷ xs) = reverseComplement xs ++ (complement x ∷ [])
 
 -- the first place, counted from n, whose byte is not among the fifteen; 0 where all are
 unfoldable pub badFrom : ℕ → List ℕ → ℕ

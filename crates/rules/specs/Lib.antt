@@ -1,4 +1,4 @@
--- What a reader must believe, in the order and the words of document 01.
+-- What a reader must believe, in the order and the words of document 01, with document 02's CR 1 where it belongs.
 pub mod Lists
 pub mod Letters
 pub mod Places
@@ -8,5 +8,6 @@ pub mod Chains
 pub mod Records
 pub mod Listing
 pub mod Rooms
+pub mod Strands
 pub mod Answers
 pub mod Examples

@@ -1,4 +1,4 @@
--- Document 01, "Places, matches and chains": closed matches, spans, the listing and its entries. Assumes nothing.
+-- Document 01, "Places, matches and chains": closed matches, spans, the listing of one sweep and its entries. Assumes nothing.
 use mathlib.Core.Path.{_≡_}
 use mathlib.Core.Bool.{Bool, _&&_, not}
 use mathlib.Core.List.{List, [], _∷_, List·Memᴰ}
@@ -41,11 +41,11 @@ listing c first second = keep (isListed c (matches c first second)) (records c f
 unfoldable pub ends : ℕ → Cell → Cell
 ends k x = record { row = x .row + k - 1; column = x .column + k - 1 }
 
--- "An entry is five 32-bit numbers: p, i + k - 1, q, j + k - 1, weight."
+-- "An entry is five 32-bit numbers: p, i + k - 1, q, j + k - 1, weight." CR 1: "Entries gain a sixth number, 0 or 1": here 0, the forward strand
 unfoldable pub entryNumbers : ℕ → Record → List ℕ
 unfolding ends
 entryNumbers k x =
-    x .start .row ∷ ends k (x .cell) .row ∷ x .start .column ∷ ends k (x .cell) .column ∷ x .weight ∷ []
+    x .start .row ∷ ends k (x .cell) .row ∷ x .start .column ∷ ends k (x .cell) .column ∷ x .weight ∷ 0 ∷ []
 
 -- ---- the same in words, of which proofs/Theorems.antt shows that the listing has exactly these, each once and in order
 

@@ -52,8 +52,13 @@ unfoldable pub largestTo : (ℕ → ℕ) → ℕ → ℕ
 largestTo f zero = 0
 largestTo f (suc n) = max (largestTo f n) (f (suc n))
 
--- the numbers of each element, one element after the other
-unfoldable pub laid : {A : Type 0} → (A → List ℕ) → List A → List ℕ
+-- the largest of a number over a list, 0 where the list is empty
+unfoldable pub largestOf : {A : Type 0} → (A → ℕ) → List A → ℕ
+largestOf f [] = 0
+largestOf f (x ∷ xs) = max (largestOf f xs) (f x)
+
+-- what each element stands for, one after the other
+unfoldable pub laid : {A B : Type 0} → (A → List B) → List A → List B
 laid f [] = []
 laid f (x ∷ xs) = f x ++ laid f xs
 

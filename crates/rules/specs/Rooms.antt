@@ -11,12 +11,13 @@ use Rattle.rules.specs.Matches.{Cell, isMatch, matches}
 use Rattle.rules.specs.Chains.{leftExtension, Heaviest, Start}
 use Rattle.rules.specs.Records.{Record, records}
 
--- "Work room holds one record in each eight numbers, list room one entry in each five; a remainder holds nothing."
+-- "Work room holds one record in each eight numbers, list room one entry in each five; a remainder holds nothing." CR 1: "List room now counts six
+-- numbers an entry."
 unfoldable pub workHolds : List ℕ → ℕ
 workHolds room = length room / 8
 
 unfoldable pub listHolds : List ℕ → ℕ
-listHolds room = length room / 5
+listHolds room = length room / 6
 
 -- "A record is row, column, weight, start row, start column and three zeros."
 unfoldable pub recordNumbers : Record → List ℕ

@@ -10,6 +10,8 @@ pub struct Settings {
     pub a: u32,
     // the least span in bases
     pub m: u32,
+    // 0 forward, 1 both; of the stopped sweep 0 forward, 1 reverse
+    pub strand: u32,
 }
 
 // A row, a place of the first sequence, and a column, a place of the second.

@@ -59,7 +59,7 @@ module _ {firsts nexts room₀ : List ℕ} {ring : Ring} {c : Settings} (s : Swe
   -- and once every row below (rows + b + 1) - b is released, none is left
   pub lists-all : {last : ℕ} → last ≡ length firsts + c .b + 1 → {list′ : List ℕ} {r : Released} → ReleaseDone c last room latest ring (w .tail) (w .head) list (w .listed) list′ r
       → ListsAll firsts nexts ring c list′ (r .listed)
-  lists-all {last} el {list′} {r} e = record { entered = go }
+  lists-all {last} el {list′} {r} e = record { few = (let a = e .few in let b = e .to in let f = d .few in omega arith); entered = go }
     where
       go : (hit : Cell → Bool) (columns : ℕ) → Describes hit columns firsts nexts (c .b) ring
           → ListedTo c (matchesTo hit columns (length firsts)) (recordsFrom (c .b) [] (matchesTo hit columns (length firsts))) list′ (r .listed)

@@ -6,13 +6,12 @@ use Prim.Native.Nat.{ℕ, suc, _+_, _-_, _*_, _^_, _≤_, _<_}
 use native.Mathlib.Omega.{arith}
 use native.Mathlib.Numerals.{add-one}
 use borrow.Author.Tests.{eq-eqb, ne-eqb}
-use lib.Dec.{eqb}
 use lib.ListN.{length, getD, take}
 use Rattle.rules.specs.declared.Settings.{Settings}
 use Rattle.rules.specs.declared.Cell.{Cell}
 use Rattle.rules.specs.declared.Record.{Record}
 use Rattle.rules.specs.Lists.{keep, laid}
-use Rattle.rules.specs.Matches.{cell, matchesTo}
+use Rattle.rules.specs.Matches.{matchesTo}
 use Rattle.rules.specs.Rooms.{largestRun}
 use Rattle.rules.proofs.Tests.{Three, below, equal, above, three}
 use Rattle.rules.proofs.Weights.{sweep-cells}

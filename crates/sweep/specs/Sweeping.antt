@@ -50,6 +50,7 @@ pub record SweepDone (firsts nexts : List ℕ) (ring : Ring) (c : Settings) (roo
 
 -- the whole listing: so many entries, at the front of the list room where it holds them all
 pub record ListsAll (firsts nexts : List ℕ) (ring : Ring) (c : Settings) (list′ : List ℕ) (n : ℕ) : Type 0 where
+  pub few : n ≤ length firsts * 16384
   pub entered : (hit : Cell → Bool) (columns : ℕ) → Describes hit columns firsts nexts (c .b) ring
       → ListedTo c (matchesTo hit columns (length firsts)) (recordsFrom (c .b) [] (matchesTo hit columns (length firsts))) list′ n
 

@@ -2,8 +2,6 @@
 use predecessors::Ring;
 use rules::Settings;
 ghost use mathlib.Core.Path.{_≡_};
-ghost use Prim.Native.Nat.{_+_, _*_, _≤_, _<_};
-ghost use lib.ListN.{length, getD};
 ghost use Rattle.sweep.specs.Sweeping.{laterFrom, SweepSafe, SweepDone, ListsAll, HoldsRun};
 ghost use Rattle.sweep.specs.Latest.{NoneLatest};
 

@@ -7,7 +7,7 @@ ghost use Rattle.tally.specs.Tallies.{RowSized, MatchedBefore, Leaves, C
 ghost use Rattle.matches.specs.Walks.{NextsSafe, WalkSafe};
 ghost use Rattle.tally.specs.Columns.{sumFrom, RowReleased, Released, RowAdded};
 
-fn larger(x: usize, y: usize) -> usize
+pub fn larger(x: usize, y: usize) -> usize
     ensures { λ r. ⌜ r ≡ max x y ⌝ }
 {
     if x < y { y } else { x }

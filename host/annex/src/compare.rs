@@ -7,7 +7,7 @@ use hornbeamlet::{Library, Listing, Refusal, Settings};
 
 /// All that was compared.
 pub struct Report<'a> {
-    /// The four settings.
+    /// The settings.
     pub settings: Settings,
     /// The first sequence.
     pub first: &'a Record,
@@ -72,5 +72,5 @@ pub fn compare<'a>(
 
 /// Whether a refusal is of the settings or the first sequence.
 fn recurs(refusal: &Refusal) -> bool {
-    refusal.number <= 4 || refusal.sequence == 1
+    matches!(refusal.number, 1..=4 | 9) || refusal.sequence == 1
 }

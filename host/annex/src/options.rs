@@ -1,6 +1,7 @@
 //! The command line.
 
-use hornbeamlet::Settings;
+use crate::words;
+use hornbeamlet::{Settings, BOTH, FORWARD};
 use std::ffi::OsString;
 use std::path::PathBuf;
 
@@ -17,26 +18,31 @@ usage: annex [options] FIRST SECOND
   -b N    gap bound, 1 to 1,024: matches of a chain lie no further apart (300)
   -a N    repeat cap, 1 to 1,024: k-mers that occur more often are unused (20)
   -m N    least span, 0 to 16,384: shorter stretches are not listed (100)
+  --strand forward|both  SECOND as it stands, or also turned round, the way half
+          the references are stored; forward alone misses those (both)
 
   --tsv   the clauses as tab-separated values under a line of headings
   --json  settings, tallies and clauses, or the refusals
   --paf   minimap2's PAF, the weight in its column of matches
 
 A clause is a chain of matches that goes no further. It names its first and last
-place in both sequences, counted from 1, and its weight, the number of matches.
-A smaller k finds more distant kin, a larger a keeps more of the repeats.
+place in both sequences, counted from 1; its weight, the number of matches; and
+its strand. A smaller k finds more distant kin, a larger a keeps more repeats.
 
 Exit status: 0 done, 1 refused (with number and place), 2 usage or file.
 ";
 
 /// The settings where none are given. Eleven letters seldom agree by chance in
 /// sequences of this size; 300 steps over the usual insertions; a k-mer seen
-/// more than 20 times tells nothing about where it belongs.
+/// more than 20 times tells nothing about where it belongs. Both strands, since
+/// half the references are stored turned round: whoever does not know which
+/// would read an empty listing as nothing shared.
 const DEFAULTS: Settings = Settings {
     k: 11,
     b: 300,
     a: 20,
     m: 100,
+    strand: BOTH,
 };
 
 /// How the output is written.
@@ -55,7 +61,7 @@ pub enum Format {
 /// What is to be compared, and how it is shown.
 #[derive(Debug, PartialEq, Eq)]
 pub struct Options {
-    /// The four settings.
+    /// The settings.
     pub settings: Settings,
     /// How the output is written.
     pub format: Format,
@@ -113,26 +119,32 @@ enum Taken {
 }
 
 impl Reading {
-    /// One option. A setting's value is the rest of its argument or the next.
     fn option(&mut self, option: &str, next: Option<&str>) -> Result<Taken, String> {
         match option {
             "--tsv" => self.show_as(Format::Tsv),
             "--json" => self.show_as(Format::Json),
             "--paf" => self.show_as(Format::Paf),
-            _ => {
-                let (name, value) = option.split_at_checked(2).unwrap_or((option, ""));
-                let setting = self.setting(name).ok_or_else(|| unknown(option))?;
-                if value.is_empty() {
-                    *setting = number(name, next)?;
-                    return Ok(Taken::Two);
-                }
-                *setting = number(name, Some(value))?;
-                Ok(Taken::One)
-            }
+            _ => self.set(option, next),
         }
     }
 
-    fn setting(&mut self, name: &str) -> Option<&mut u32> {
+    /// A setting. Its value is the rest of its argument or the next.
+    fn set(&mut self, option: &str, next: Option<&str>) -> Result<Taken, String> {
+        let (name, rest) = name_and_rest(option);
+        let (value, taken) = match rest {
+            Some(rest) => (Some(rest), Taken::One),
+            None => (next, Taken::Two),
+        };
+        if name == "--strand" {
+            self.settings.strand = strand(value)?;
+        } else {
+            let setting = self.number_setting(name).ok_or_else(|| unknown(option))?;
+            *setting = number(name, value)?;
+        }
+        Ok(taken)
+    }
+
+    fn number_setting(&mut self, name: &str) -> Option<&mut u32> {
         match name {
             "-k" => Some(&mut self.settings.k),
             "-b" => Some(&mut self.settings.b),
@@ -164,8 +176,26 @@ impl Reading {
     }
 }
 
+/// An option's name, and its value where that stands in the same argument: -k5
+/// or --strand=both.
+fn name_and_rest(option: &str) -> (&str, Option<&str>) {
+    if option.starts_with("--") {
+        let parts = option.split_once('=');
+        return parts.map_or((option, None), |(name, value)| (name, Some(value)));
+    }
+    let (name, rest) = option.split_at_checked(2).unwrap_or((option, ""));
+    (name, Some(rest).filter(|rest| !rest.is_empty()))
+}
+
 fn unknown(option: &str) -> String {
     format!("there is no option {option} (annex --help)")
+}
+
+fn strand(value: Option<&str>) -> Result<u32, String> {
+    let value = value.ok_or("--strand needs forward or both after it")?;
+    let mut settings = [FORWARD, BOTH].into_iter();
+    let named = settings.find(|&setting| words::strand_setting(setting) == value);
+    named.ok_or_else(|| format!("--strand needs forward or both, not {value}"))
 }
 
 /// Whether a number is in the library's table is for the library to say.
@@ -202,12 +232,15 @@ mod tests {
 
     #[test]
     fn the_help_names_the_defaults() {
-        let Settings { k, b, a, m } = DEFAULTS;
+        let Settings { k, b, a, m, strand } = DEFAULTS;
         for (name, value) in [("k", k), ("b", b), ("a", a), ("m", m)] {
             let mut lines = HELP.lines();
             let line = lines.find(|line| line.starts_with(&format!("  -{name} N")));
             assert!(line.unwrap().ends_with(&format!("({value})")));
         }
+        let (_, after) = HELP.split_once("  --strand forward|both").unwrap();
+        let (told, _) = after.split_once("\n\n").unwrap();
+        assert!(told.ends_with(&format!("({})", words::strand_setting(strand))));
     }
 
     #[test]
@@ -217,16 +250,25 @@ mod tests {
             b: 300,
             a: 7,
             m: 0,
+            strand: FORWARD,
         };
         for arguments in [
-            ["-k", "5", "-a7", "-m0", "x", "y"],
-            ["x", "-m0", "y", "-k", "5", "-a7"],
+            ["-k", "5", "-a7", "-m0", "--strand", "forward", "x", "y"],
+            ["x", "--strand", "forward", "-m0", "y", "-k", "5", "-a7"],
         ] {
             let options = options(&arguments);
             assert_eq!(options.settings, expected);
             assert_eq!(options.first, PathBuf::from("x"));
             assert_eq!(options.second, PathBuf::from("y"));
         }
+    }
+
+    #[test]
+    fn the_strand_is_both_unless_forward_is_asked_for() {
+        let strand = |arguments: &[&str]| options(arguments).settings.strand;
+        assert_eq!(strand(&["x", "y"]), BOTH);
+        assert_eq!(strand(&["x", "y", "--strand", "both"]), BOTH);
+        assert_eq!(strand(&["--strand=forward", "x", "y"]), FORWARD);
     }
 
     #[test]
@@ -239,13 +281,17 @@ mod tests {
 
     #[test]
     fn faults_are_told_in_plain_words() {
-        let faults: [(&[&str], &str); 10] = [
+        let faults: [(&[&str], &str); 14] = [
             (&["x"], "1 given"),
             (&["x", "y", "z"], "3 given"),
             (&["x", "y", "-k"], "-k needs a number after it"),
             (&["x", "y", "-k", "five"], "not five"),
             (&["x", "y", "-b", "-1"], "not -1"),
             (&["x", "y", "-m4294967296"], "is larger"),
+            (&["x", "y", "--strand"], "forward or both after it"),
+            (&["x", "y", "--strand", "reverse"], "not reverse"),
+            (&["x", "y", "--strand", "1"], "not 1"),
+            (&["x", "y", "--strand="], "forward or both, not "),
             (&["x", "y", "--xml"], "no option --xml"),
             (&["x", "-"], "no option -"),
             (&["x", "-é"], "no option -é"),

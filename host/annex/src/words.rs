@@ -1,7 +1,7 @@
-//! Refusals and numbers in plain words.
+//! Refusals, strands and numbers in plain words.
 
 use crate::files::Record;
-use hornbeamlet::{Refusal, Settings};
+use hornbeamlet::{Refusal, Settings, Strand, FORWARD};
 
 /// A refusal with its number, its sequence and its place.
 pub fn refused(settings: Settings, sequences: [&Record; 2], refusal: Refusal) -> String {
@@ -16,6 +16,7 @@ pub fn refused(settings: Settings, sequences: [&Record; 2], refusal: Refusal) ->
         4 => setting("m", "the least span", settings.m, "0 to 16,384"),
         5 => too_long(refusal, record),
         6 => bad_letter(refusal, record),
+        9 => no_strand(settings.strand),
         _ => format!("sequence {}, detail {}", refusal.sequence, refusal.detail),
     };
     format!("refused, number {}: {why}", refusal.number)
@@ -24,6 +25,12 @@ pub fn refused(settings: Settings, sequences: [&Record; 2], refusal: Refusal) ->
 fn setting(name: &str, meaning: &str, value: u32, accepted: &str) -> String {
     let value = grouped(u64::from(value));
     format!("{name}, {meaning}, is {value}; {accepted} is accepted (-{name})")
+}
+
+/// The option names no such strand, but the library may still say so.
+fn no_strand(strand: u32) -> String {
+    let value = grouped(u64::from(strand));
+    format!("the strand is {value}; 0, forward, and 1, both, are accepted (--strand)")
 }
 
 fn too_long(refusal: Refusal, record: &Record) -> String {
@@ -80,6 +87,22 @@ fn first_character(text: &[u8]) -> Option<char> {
     valid.chars().next()
 }
 
+/// The strand setting as the option --strand names it.
+pub fn strand_setting(strand: u32) -> &'static str {
+    match strand {
+        FORWARD => "forward",
+        _ => "both",
+    }
+}
+
+/// The strand of a clause.
+pub fn strand(strand: Strand) -> &'static str {
+    match strand {
+        Strand::Forward => "forward",
+        Strand::Reverse => "reverse",
+    }
+}
+
 /// A number with a comma before every third digit from the right.
 pub fn grouped(number: u64) -> String {
     match number / 1_000 {
@@ -106,6 +129,12 @@ mod tests {
             "4,294,967,296",
         ];
         assert_eq!(texts, expected);
+    }
+
+    #[test]
+    fn a_strand_that_is_none_is_told_with_those_that_are() {
+        let told = "the strand is 1,000; 0, forward, and 1, both, are accepted (--strand)";
+        assert_eq!(no_strand(1_000), told);
     }
 
     #[test]

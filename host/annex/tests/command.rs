@@ -79,6 +79,7 @@ fn examples(test: &str) -> Folder {
     )
 }
 
+/// On both strands: P1's second sequence turned round is its first.
 #[test]
 fn the_documents_first_example() {
     let folder = examples("p1");
@@ -92,19 +93,117 @@ fn the_documents_first_example() {
 #[test]
 fn the_documents_fifth_example() {
     let folder = examples("p5");
-    let golden = |format: &str| folder.done(&format!("{P5} p5.txt p5.txt {format}"));
+    let golden =
+        |format: &str| folder.done(&format!("{P5} --strand forward p5.txt p5.txt {format}"));
     assert_eq!(golden(""), include_str!("golden/p5.txt"));
     assert_eq!(golden("--tsv"), include_str!("golden/p5.tsv"));
     assert_eq!(golden("--json"), include_str!("golden/p5.json"));
     assert_eq!(golden("--paf"), include_str!("golden/p5.paf"));
 }
 
+/// The repository's own examples.
+fn own_examples() -> Folder {
+    let top = Path::new(env!("CARGO_MANIFEST_DIR")).join("../..");
+    Folder(top.join("examples"))
+}
+
 #[test]
 fn the_repositorys_own_example() {
-    let top = Path::new(env!("CARGO_MANIFEST_DIR")).join("../..");
-    let folder = Folder(top.join("examples"));
+    let folder = own_examples();
     let output = folder.done("strain.fa reference.fa");
     assert_eq!(output, include_str!("golden/example.txt"));
+    let output = folder.done("strain.fa turned.fa");
+    assert_eq!(output, include_str!("golden/turned.txt"));
+}
+
+/// A strain's stretch, a reference that is stored turned round, and a stretch
+/// that is its own reverse complement.
+fn strands(test: &str) -> Folder {
+    Folder::new(
+        test,
+        &[
+            ("strain.fa", b">strain\nGATTACAGGC\n"),
+            ("reference.fa", b">reference\nCCGATTACAGGCA\n"),
+            ("turned.fa", b">turned\nTGCCTGTAATCGG\n"),
+            ("palindrome.fa", b">palindrome\nGAATTC\n"),
+        ],
+    )
+}
+
+const STRANDS: &str = "-k 5 -b 5 -m 0";
+
+#[test]
+fn a_turned_reference_is_listed_as_reverse() {
+    let folder = strands("turned");
+    let done = |format: &str| folder.done(&format!("{STRANDS} {format} strain.fa turned.fa"));
+    assert_eq!(done(""), include_str!("golden/turned-small.txt"));
+    assert_eq!(
+        done("--tsv").lines().nth(1),
+        Some("strain\tturned\t1\t1\t10\t2\t11\t6\treverse")
+    );
+    assert_eq!(
+        done("--paf"),
+        "strain\t10\t0\t10\t-\tturned\t13\t1\t11\t6\t10\t255\tcm:i:6\n"
+    );
+    let json = done("--json");
+    assert!(json.starts_with(r#"{"settings":{"k":5,"b":5,"a":20,"m":0,"strand":"both"},"#));
+    assert!(
+        json.contains(r#""clauses":[{"clause":1,"first_start":1,"first_end":10,"second_start":2,"#)
+    );
+    assert!(json.contains(r#""second_end":11,"weight":6,"strand":"reverse"}]"#));
+}
+
+#[test]
+fn the_forward_strand_alone_has_nothing_of_a_turned_reference() {
+    let folder = strands("forward-only");
+    let line = format!("{STRANDS} --strand forward strain.fa");
+    let output = folder.done(&format!("{line} turned.fa"));
+    assert!(output.contains("\n  strand           forward\n"));
+    assert!(output.ends_with(
+        "\n  No clause: the two have no k-mer in common that is used, on the forward strand.\n"
+    ));
+    let tsv = folder.done(&format!("{line} turned.fa --tsv"));
+    assert_eq!(tsv.lines().count(), 1);
+    let tsv = folder.done(&format!("{line} reference.fa --tsv"));
+    assert!(tsv.ends_with("\nstrain\treference\t1\t1\t10\t3\t12\t6\tforward\n"));
+}
+
+#[test]
+fn the_forward_clauses_come_first_and_are_those_of_a_forward_run() {
+    let folder = own_examples();
+    for second in ["reference.fa", "turned.fa"] {
+        let line = format!("-k 5 -m 0 --tsv strain.fa {second}");
+        let both = folder.done(&line);
+        let forward = folder.done(&format!("{line} --strand forward"));
+        let reverse = both.strip_prefix(&forward).unwrap();
+        assert!(forward.lines().skip(1).all(|it| it.ends_with("\tforward")));
+        assert!(reverse.lines().all(|it| it.ends_with("\treverse")));
+        assert!(forward.lines().count() > 1 && reverse.lines().count() > 0);
+        let numbers = both
+            .lines()
+            .skip(1)
+            .map(|it| it.split('\t').nth(2).unwrap());
+        let counted = (1..both.lines().count()).map(|number| number.to_string());
+        assert!(numbers.eq(counted));
+    }
+}
+
+#[test]
+fn a_stretch_that_is_its_own_reverse_complement_is_listed_on_both_strands() {
+    let folder = strands("palindrome");
+    let tsv = folder.done(&format!("{STRANDS} --tsv palindrome.fa palindrome.fa"));
+    let listed: Vec<&str> = tsv.lines().skip(1).collect();
+    let expected = [
+        "palindrome\tpalindrome\t1\t1\t6\t1\t6\t2\tforward",
+        "palindrome\tpalindrome\t2\t1\t6\t1\t6\t2\treverse",
+    ];
+    assert_eq!(listed, expected);
+    let paf = folder.done(&format!("{STRANDS} --paf palindrome.fa palindrome.fa"));
+    let signs: Vec<&str> = paf
+        .lines()
+        .map(|it| it.split('\t').nth(4).unwrap())
+        .collect();
+    assert_eq!(signs, ["+", "-"]);
 }
 
 #[test]
@@ -112,6 +211,7 @@ fn the_help_page() {
     let folder = examples("help");
     let page = folder.done("--help");
     assert!(page.starts_with("annex: ") && page.contains("-k N"));
+    assert!(page.contains("--strand forward|both"));
     assert_eq!(folder.done("p5.txt -h"), page);
 }
 
@@ -119,11 +219,12 @@ fn the_help_page() {
 fn no_clause_is_said_so() {
     let folder = examples("none");
     let too_short = folder.done("-k 2 -b 2 -a 8 -m 6 p1-first.fa p1-second.fa");
-    assert!(too_short.ends_with("\n  No clause: no chain spans 6 bases in both sequences.\n"));
+    assert!(too_short
+        .ends_with("\n  No clause: no chain spans 6 bases in both sequences, on either strand.\n"));
     let too_frequent = folder.done("-k 1 -b 1 -a 5 -m 0 p5.txt p5.txt");
-    assert!(
-        too_frequent.ends_with("\n  No clause: the two have no k-mer in common that is used.\n")
-    );
+    assert!(too_frequent.ends_with(
+        "\n  No clause: the two have no k-mer in common that is used, on either strand.\n"
+    ));
 }
 
 #[test]
@@ -143,7 +244,7 @@ fn more_clauses_than_the_list_room_first_lent() {
     assert_eq!(output.lines().count(), 1_000);
     assert_eq!(
         output.lines().last(),
-        Some("a.txt\ta.txt\t999\t1\t500\t1\t500\t999")
+        Some("a.txt\ta.txt\t999\t1\t500\t1\t500\t999\tforward")
     );
 }
 
@@ -286,6 +387,14 @@ fn every_fault_of_the_command_line() {
         (
             "-m -1 p5.txt p5.txt",
             "-m needs a whole number, not -1".to_string(),
+        ),
+        (
+            "--strand reverse p5.txt p5.txt",
+            "--strand needs forward or both, not reverse".to_string(),
+        ),
+        (
+            "p5.txt p5.txt --strand",
+            "--strand needs forward or both after it".to_string(),
         ),
         (
             "--tsv --json p5.txt p5.txt",

@@ -115,8 +115,8 @@ impl Lent {
 
 /// The reference's answer in the library's terms.
 fn by_reference(job: &Job, work: &mut [u32], list: &mut [u32]) -> Answer {
-    let Settings { k, b, a, m } = job.settings;
-    let settings = reference::Settings { k, b, a, m };
+    let Settings { k, b, a, m, strand } = job.settings;
+    let settings = reference::Settings { k, b, a, m, strand };
     let given = reference::compare(settings, &job.first, &job.second, work, list);
     Answer {
         number: given.number,
@@ -167,7 +167,8 @@ fn row(call: &Call) -> Vec<String> {
 }
 
 /// How the time grows when both sequences become four times as long. The calls
-/// are those of the ordinary jobs, kind by kind at each of three lengths.
+/// are those of the ordinary jobs, kind by kind at each of three lengths, and
+/// what comes after those is not looked at.
 pub fn print_growth(calls: &[Call]) {
     let by_length: Vec<&[Call]> = calls.chunks(KINDS.len()).collect();
     let pairs = by_length[1].iter().zip(by_length[2]).zip(KINDS);

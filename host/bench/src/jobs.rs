@@ -1,27 +1,30 @@
 //! The jobs that are measured, the same in every run.
 
-use hornbeamlet::Settings;
+use hornbeamlet::{Settings, BOTH, FORWARD};
 use reference::random::Random;
 
 /// The longest sequence that is accepted.
 const LONGEST: usize = 16_384;
 
-/// The settings of the command `annex` where none are given.
+/// The settings of the command `annex` where none are given, but on the forward
+/// strand alone: a job over both is two sweeps, and has a line of its own.
 const ORDINARY: Settings = Settings {
     k: 11,
     b: 300,
     a: 20,
     m: 100,
+    strand: FORWARD,
 };
 
 /// The kinds of ordinary pairs, and how many letters of a thousand differ.
 pub const KINDS: [(&str, usize); 4] = [("1 %", 10), ("5 %", 50), ("10 %", 100), ("repeats", 10)];
 
 /// A job and its name in the tables.
+#[derive(Clone)]
 pub struct Job {
     /// Its name.
     pub name: String,
-    /// The four settings.
+    /// The settings.
     pub settings: Settings,
     /// The first sequence.
     pub first: Vec<u8>,
@@ -30,7 +33,8 @@ pub struct Job {
 }
 
 /// Pairs of three lengths, and of every kind at each length: a sequence and a
-/// changed copy of it.
+/// changed copy of it. The longest of the first kind comes once more at the end,
+/// over both strands.
 pub fn ordinary() -> Vec<Job> {
     let mut random = Random::new(1);
     let mut jobs = Vec::new();
@@ -50,7 +54,15 @@ pub fn ordinary() -> Vec<Job> {
             });
         }
     }
+    jobs.push(over_both_strands(&jobs[jobs.len() - KINDS.len()]));
     jobs
+}
+
+fn over_both_strands(job: &Job) -> Job {
+    let mut job = job.clone();
+    job.name += ", both strands";
+    job.settings.strand = BOTH;
+    job
 }
 
 /// Half of the letters in repeats, eight nearly equal copies of 64 letters for
@@ -76,15 +88,15 @@ pub fn worst() -> Vec<Job> {
     let strewn = all_words(&mut random);
     let others = all_words(&mut random);
     let cycle = de_bruijn_cycle().repeat(LONGEST / 32);
-    let turned: Vec<u8> = strewn.iter().rev().copied().collect();
-    let turned_cycle: Vec<u8> = cycle.iter().rev().copied().collect();
+    let reversed: Vec<u8> = strewn.iter().rev().copied().collect();
+    let reversed_cycle: Vec<u8> = cycle.iter().rev().copied().collect();
     let (falling, rising) = antidiagonal();
     let (sharing, shuffled) = sharing_a_hash(&mut random);
     vec![
         worst_job("32 k-mers, random order", 5, strewn.clone(), others),
-        worst_job("32 k-mers, second reversed", 5, strewn, turned),
+        worst_job("32 k-mers, second reversed", 5, strewn, reversed),
         worst_job("32 k-mers in cycles", 5, cycle.clone(), cycle.clone()),
-        worst_job("cycles, second reversed", 5, cycle, turned_cycle),
+        worst_job("cycles, second reversed", 5, cycle, reversed_cycle),
         worst_job("antidiagonal", 6, falling, rising),
         worst_job("k-mers that share a hash", 13, sharing, shuffled),
     ]
@@ -98,6 +110,7 @@ fn worst_job(name: &str, k: u32, first: Vec<u8>, second: Vec<u8>) -> Job {
             b: 1_024,
             a: 1_024,
             m: 0,
+            strand: FORWARD,
         },
         first,
         second,
@@ -145,8 +158,8 @@ fn antidiagonal() -> (Vec<u8>, Vec<u8>) {
     let kmers: Vec<Vec<u8>> = (0..LONGEST as u64 / 7)
         .map(|packed| kmer_and_n(packed, 6))
         .collect();
-    let turned: Vec<Vec<u8>> = kmers.iter().rev().cloned().collect();
-    (kmers.concat(), turned.concat())
+    let reversed: Vec<Vec<u8>> = kmers.iter().rev().cloned().collect();
+    (kmers.concat(), reversed.concat())
 }
 
 /// k-mers that the library's table puts into one list, an N after each, so that

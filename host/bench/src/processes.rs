@@ -5,6 +5,7 @@ use crate::calls::Call;
 use crate::jobs::Job;
 use crate::table::{self, duration, times};
 use crate::timing::{medians_in_turn, ratio};
+use hornbeamlet::FORWARD;
 use std::env;
 use std::fs;
 use std::path::{Path, PathBuf};
@@ -15,7 +16,7 @@ use std::time::Duration;
 struct Program {
     name: &'static str,
     path: PathBuf,
-    words: &'static [&'static str],
+    words: fn(&Job) -> &'static [&'static str],
     /// Whether the file that is searched in comes first.
     second_first: bool,
 }
@@ -38,17 +39,17 @@ impl Programs {
         let here = env::current_exe().map_err(|error| error.to_string())?;
         let folder = here.with_file_name("bench-files");
         fs::create_dir_all(&folder).map_err(|error| error.to_string())?;
-        let annex = |words| Program {
+        let annex = |words: fn(&Job) -> _| Program {
             name: "annex",
             path: here.with_file_name("annex"),
             words,
             second_first: false,
         };
         let found = [
-            Some(annex(&[])),
-            Some(annex(&["--help"])),
-            other("minimap2", &["-x", "asm20"]),
-            other("mummer", &["-maxmatch", "-l", "15"]),
+            Some(annex(strand_words)),
+            Some(annex(|_| &["--help"])),
+            other("minimap2", |_| &["-x", "asm20"]),
+            other("mummer", |_| &["-maxmatch", "-l", "15"]),
         ];
         Ok(Programs {
             found: found.into_iter().flatten().collect(),
@@ -69,10 +70,18 @@ impl Programs {
     }
 }
 
+/// The strand that `annex` is asked for.
+fn strand_words(job: &Job) -> &'static [&'static str] {
+    match job.settings.strand {
+        FORWARD => &["--strand", "forward"],
+        _ => &["--strand", "both"],
+    }
+}
+
 impl Program {
-    fn run(&self, [first, second]: &[PathBuf; 2]) {
+    fn run(&self, job: &Job, [first, second]: &[PathBuf; 2]) {
         let mut command = silent(&self.path);
-        command.args(self.words);
+        command.args((self.words)(job));
         if self.second_first {
             command.args([second, first]);
         } else {
@@ -98,7 +107,7 @@ fn build_annex() -> Result<(), String> {
 }
 
 /// A program of the field, or a note that it is not installed.
-fn other(name: &'static str, words: &'static [&'static str]) -> Option<Program> {
+fn other(name: &'static str, words: fn(&Job) -> &'static [&'static str]) -> Option<Program> {
     if silent(Path::new(name)).arg("--version").status().is_err() {
         println!("{name} is not installed and is left out.\n");
         return None;
@@ -138,12 +147,13 @@ pub fn print(programs: &Programs, calls: &[Call]) {
 
 /// The medians of all programs, job by job.
 fn measure(programs: &Programs, calls: &[Call]) -> Vec<Duration> {
-    let files: Vec<[PathBuf; 2]> = calls.iter().map(|it| programs.write(&it.job)).collect();
-    let tasks = files
+    let jobs = calls.iter().map(|it| (&it.job, programs.write(&it.job)));
+    let jobs: Vec<(&Job, [PathBuf; 2])> = jobs.collect();
+    let tasks = jobs
         .iter()
-        .flat_map(|files| programs.found.iter().map(move |it| (it, files)));
-    let tasks: Vec<(&Program, &[PathBuf; 2])> = tasks.collect();
-    medians_in_turn(&tasks, |(program, files)| program.run(files))
+        .flat_map(|job| programs.found.iter().map(move |it| (it, job)));
+    let tasks: Vec<(&Program, &(&Job, [PathBuf; 2]))> = tasks.collect();
+    medians_in_turn(&tasks, |(program, (job, files))| program.run(job, files))
 }
 
 fn row((call, medians): (&Call, &[Duration])) -> Vec<String> {

@@ -16,6 +16,7 @@ extern "C" {
         b: u32,
         a: u32,
         m: u32,
+        strand: u32,
         first: *const u8,
         first_len: usize,
         second: *const u8,
@@ -27,6 +28,7 @@ extern "C" {
         b: u32,
         a: u32,
         m: u32,
+        strand: u32,
         first: *const u8,
         first_len: usize,
         second: *const u8,
@@ -43,6 +45,7 @@ extern "C" {
         b: u32,
         a: u32,
         m: u32,
+        strand: u32,
         first: *const u8,
         first_len: usize,
         second: *const u8,
@@ -55,10 +58,11 @@ extern "C" {
 }
 
 impl Library {
-    /// How many records of work room the job needs: W, or [`crate::REFUSED`]
-    /// plus the number of a refusal, 1 to 6.
+    /// How many records of work room the job needs: W, over both strands the
+    /// larger of the two, or [`crate::REFUSED`] plus the number of a refusal,
+    /// 1 to 6 or 9.
     pub fn need(&self, settings: Settings, first: &[u8], second: &[u8]) -> u64 {
-        let Settings { k, b, a, m } = settings;
+        let Settings { k, b, a, m, strand } = settings;
         // SAFETY: see the head of this file; the sequences are only read.
         unsafe {
             hornbeamlet_need(
@@ -66,6 +70,7 @@ impl Library {
                 b,
                 a,
                 m,
+                strand,
                 first.as_ptr(),
                 first.len(),
                 second.as_ptr(),
@@ -74,8 +79,8 @@ impl Library {
         }
     }
 
-    /// The two sequences compared: entries in the list room, then zeros, and
-    /// zeros in the work room.
+    /// The two sequences compared: entries in the list room, the forward ones
+    /// first, then zeros, and zeros in the work room.
     pub fn compare(
         &self,
         settings: Settings,
@@ -84,7 +89,7 @@ impl Library {
         work: &mut [u32],
         list: &mut [u32],
     ) -> Answer {
-        let Settings { k, b, a, m } = settings;
+        let Settings { k, b, a, m, strand } = settings;
         let mut numbers = Numbers::default();
         // SAFETY: see the head of this file; the answer has its seven numbers.
         unsafe {
@@ -93,6 +98,7 @@ impl Library {
                 b,
                 a,
                 m,
+                strand,
                 first.as_ptr(),
                 first.len(),
                 second.as_ptr(),
@@ -107,8 +113,9 @@ impl Library {
         answer(numbers)
     }
 
-    /// The stopped sweep: records of the row and the b rows before it in the
-    /// work room, then zeros.
+    /// The stopped sweep of one strand: records of the row and the b rows before
+    /// it in the work room, then zeros. On the reverse strand their columns are
+    /// those of the second sequence turned round.
     pub fn stopped(
         &self,
         settings: Settings,
@@ -117,7 +124,7 @@ impl Library {
         work: &mut [u32],
         row: u32,
     ) -> Answer {
-        let Settings { k, b, a, m } = settings;
+        let Settings { k, b, a, m, strand } = settings;
         let mut numbers = Numbers::default();
         // SAFETY: see the head of this file; the answer has its seven numbers.
         unsafe {
@@ -126,6 +133,7 @@ impl Library {
                 b,
                 a,
                 m,
+                strand,
                 first.as_ptr(),
                 first.len(),
                 second.as_ptr(),

@@ -5,12 +5,13 @@
 //! All unsafe code of the host is in the module `boundary`.
 //!
 //! ```
-//! use hornbeamlet::{with_library, Settings};
+//! use hornbeamlet::{with_library, Settings, Strand, BOTH};
 //!
-//! let settings = Settings { k: 2, b: 2, a: 8, m: 0 };
+//! let settings = Settings { k: 2, b: 2, a: 8, m: 0, strand: BOTH };
 //! let listing = with_library(|library| library.list(settings, b"ACCGT", b"ACGGT")).unwrap();
-//! assert_eq!(listing.answer.matches, 3);
+//! assert_eq!(listing.answer.matches, 7);
 //! assert_eq!(listing.entries[0].weight, 3);
+//! assert_eq!(listing.entries[1].strand, Strand::Reverse);
 //! ```
 
 #![deny(unsafe_op_in_unsafe_fn)]
@@ -21,17 +22,25 @@ mod listing;
 #[forbid(unsafe_code)]
 mod stack;
 
-pub use listing::{Entry, Listing, Refusal};
+pub use listing::{Entry, Listing, Refusal, Strand};
 pub use stack::{with_library, Library};
 
 /// Numbers of work room in one record.
 pub const RECORD: usize = 8;
 /// Numbers of list room in one entry.
-pub const ENTRY: usize = 5;
+pub const ENTRY: usize = 6;
 /// What `need` adds to the number of a refusal.
 pub const REFUSED: u64 = 4_294_967_296;
 
-/// The four settings of a job. Any value may be asked for; those outside the
+/// The strand setting for the second sequence as it stands.
+pub const FORWARD: u32 = 0;
+/// The strand setting of `compare` and `need` for the second sequence as it
+/// stands and, in a sweep of its own, turned round.
+pub const BOTH: u32 = 1;
+/// The strand setting of `stopped` for the second sequence turned round.
+pub const REVERSE: u32 = 1;
+
+/// The settings of a job. Any value may be asked for; those outside the
 /// library's table are refused by number.
 #[derive(Clone, Copy, Debug, PartialEq, Eq)]
 pub struct Settings {
@@ -43,6 +52,9 @@ pub struct Settings {
     pub a: u32,
     /// The least span in bases, 0 to 16,384.
     pub m: u32,
+    /// The strand: [`FORWARD`] or [`BOTH`], and [`FORWARD`] or [`REVERSE`] for
+    /// the stopped sweep.
+    pub strand: u32,
 }
 
 /// The seven numbers of an answer.
@@ -56,10 +68,10 @@ pub struct Answer {
     pub detail: u64,
     /// Entries listed; for the stopped sweep, records held.
     pub listed: u64,
-    /// M, the number of matches.
+    /// M, the number of matches, over both strands their sum.
     pub matches: u64,
-    /// W, the most matches in any b + 1 rows.
+    /// W, the most matches in any b + 1 rows, over both strands the larger.
     pub widest: u64,
-    /// The link total.
+    /// The link total, over both strands their sum.
     pub links: u64,
 }

@@ -1,12 +1,22 @@
 //! From settings and sequences to a listing, with rooms lent as needed.
 
-use crate::{Answer, Library, Settings, ENTRY, RECORD};
+use crate::{Answer, Library, Settings, ENTRY, FORWARD, RECORD};
 
-/// Entries the list room holds at the first try: ten thousand bytes. A longer
+/// Entries the list room holds at the first try: twelve thousand bytes. A longer
 /// listing is asked for again with room for just so many.
 const FIRST_TRY: usize = 512;
 
-/// One entry: a closed match's chain, from its start to its last letters.
+/// The strand of the second sequence on which an entry was found.
+#[derive(Clone, Copy, Debug, PartialEq, Eq)]
+pub enum Strand {
+    /// As the sequence stands.
+    Forward,
+    /// Turned round: read from its end, each letter as its complement.
+    Reverse,
+}
+
+/// One entry: a closed match's chain, from its start to its last letters. On
+/// either strand the places are those of the sequences as they stand.
 #[derive(Clone, Copy, Debug, PartialEq, Eq)]
 pub struct Entry {
     /// First place in the first sequence.
@@ -19,6 +29,8 @@ pub struct Entry {
     pub second_end: u32,
     /// The weight of the chain, its number of matches.
     pub weight: u32,
+    /// The strand of the second sequence.
+    pub strand: Strand,
 }
 
 impl Entry {
@@ -29,6 +41,10 @@ impl Entry {
             second_start: numbers[2],
             second_end: numbers[3],
             weight: numbers[4],
+            strand: match numbers[5] {
+                FORWARD => Strand::Forward,
+                _ => Strand::Reverse,
+            },
         }
     }
 
@@ -48,7 +64,7 @@ impl Entry {
 pub struct Listing {
     /// The answer; its number is 0.
     pub answer: Answer,
-    /// The entries in their order.
+    /// The entries in their order, the forward ones first.
     pub entries: Vec<Entry>,
 }
 
@@ -66,7 +82,7 @@ pub struct Refusal {
 impl Library {
     /// The listing of a job. Work room is lent exactly as `need` tells, list
     /// room for some entries and, where that was short, for just so many as
-    /// there are. What is refused then is one of 1 to 6.
+    /// there are. What is refused then is one of 1 to 6 or 9.
     pub fn list(
         &self,
         settings: Settings,

@@ -3,7 +3,8 @@
 
 #![forbid(unsafe_code)]
 
-use hornbeamlet::{with_library, Answer, Entry, Library, Refusal, Settings, REFUSED};
+use hornbeamlet::{with_library, Answer, Entry, Library, Refusal, Settings, Strand};
+use hornbeamlet::{BOTH, FORWARD, REFUSED, REVERSE};
 
 const STALE: u32 = 77;
 
@@ -11,7 +12,12 @@ const STALE: u32 = 77;
 const P1: Settings = settings(2, 2, 8, 0);
 
 const fn settings(k: u32, b: u32, a: u32, m: u32) -> Settings {
-    Settings { k, b, a, m }
+    let strand = FORWARD;
+    Settings { k, b, a, m, strand }
+}
+
+const fn on_strand(strand: u32, settings: Settings) -> Settings {
+    Settings { strand, ..settings }
 }
 
 fn answer(refusal: [u64; 3], tallies: [u64; 4]) -> Answer {
@@ -45,10 +51,10 @@ fn compared(
 #[test]
 fn work_room_just_enough_and_one_number_less() {
     with_library(|library| {
-        let run = |work| compared(library, P1, [b"ACCGT", b"ACGGT"], [work, 5]);
+        let run = |work| compared(library, P1, [b"ACCGT", b"ACGGT"], [work, 6]);
         let done = answer([0; 3], [1, 3, 2, 2]);
-        assert_eq!(run(16), (done, vec![0; 16], vec![1, 5, 1, 5, 3]));
-        assert_eq!(run(15), (refused(7, 0, 2), vec![0; 15], vec![0; 5]));
+        assert_eq!(run(16), (done, vec![0; 16], vec![1, 5, 1, 5, 3, 0]));
+        assert_eq!(run(15), (refused(7, 0, 2), vec![0; 15], vec![0; 6]));
     });
 }
 
@@ -57,8 +63,48 @@ fn list_room_just_enough_and_one_number_less() {
     with_library(|library| {
         let p5 = settings(1, 1, 6, 0);
         let run = |list| compared(library, p5, [b"AAA", b"AAA"], [48, list]);
-        assert_eq!(run(25).0, answer([0; 3], [5, 9, 6, 16]));
-        assert_eq!(run(24), (refused(8, 0, 5), vec![0; 48], vec![0; 24]));
+        assert_eq!(run(30).0, answer([0; 3], [5, 9, 6, 16]));
+        assert_eq!(run(29), (refused(8, 0, 5), vec![0; 48], vec![0; 29]));
+    });
+}
+
+/// P1's second sequence turned round is its first, so the reverse sweep finds
+/// four matches and needs a record more than the forward one.
+#[test]
+fn rooms_for_both_strands_of_p1() {
+    with_library(|library| {
+        let both = on_strand(BOTH, P1);
+        let run = |rooms| compared(library, both, [b"ACCGT", b"ACGGT"], rooms);
+        let done = answer([0; 3], [2, 7, 3, 7]);
+        let entries = vec![1, 5, 1, 5, 3, 0, 1, 5, 1, 5, 4, 1];
+        assert_eq!(run([24, 12]), (done, vec![0; 24], entries));
+        assert_eq!(run([24, 11]), (refused(8, 0, 2), vec![0; 24], vec![0; 11]));
+        assert_eq!(run([23, 11]), (refused(7, 0, 3), vec![0; 23], vec![0; 11]));
+        assert_eq!(library.need(P1, b"ACCGT", b"ACGGT"), 2);
+        assert_eq!(library.need(both, b"ACCGT", b"ACGGT"), 3);
+    });
+}
+
+/// TTT turned round is AAA: P5's entries, their places in the second sequence
+/// counted from its other end, and their order as it was.
+#[test]
+fn reverse_entries_are_turned_back_in_their_order() {
+    with_library(|library| {
+        let p5 = on_strand(BOTH, settings(1, 1, 6, 0));
+        let (done, _, list) = compared(library, p5, [b"AAA", b"TTT"], [48, 30]);
+        let entries = [
+            [1, 1, 1, 3, 3, 1],
+            [1, 2, 1, 3, 4, 1],
+            [1, 3, 3, 3, 3, 1],
+            [1, 3, 2, 3, 4, 1],
+            [1, 3, 1, 3, 5, 1],
+        ];
+        assert_eq!(
+            (done, list),
+            (answer([0; 3], [5, 9, 6, 16]), entries.concat())
+        );
+        let (_, _, none) = compared(library, settings(1, 1, 6, 0), [b"AAA", b"TTT"], [0, 6]);
+        assert_eq!(none, [0; 6]);
     });
 }
 
@@ -72,6 +118,7 @@ fn no_letters_and_no_rooms() {
 
 #[test]
 fn settings_outside_the_table_leave_the_rooms_untouched() {
+    let over = vec![b'A'; 16_385];
     with_library(|library| {
         let cases = [
             (settings(0, 0, 0, 16_385), 1),
@@ -80,14 +127,18 @@ fn settings_outside_the_table_leave_the_rooms_untouched() {
             (settings(1, 1_025, 1, 0), 2),
             (settings(1, 1, 0, 16_385), 3),
             (settings(1, 1, 1_025, 0), 3),
-            (settings(1, 1, 1, 16_385), 4),
+            (on_strand(2, settings(1, 1, 1, 16_385)), 4),
+            (on_strand(2, settings(1, 1, 1, 0)), 9),
+            (on_strand(u32::MAX, settings(31, 1_024, 1_024, 16_384)), 9),
             (settings(u32::MAX, 1, 1, 0), 1),
         ];
         for (settings, number) in cases {
-            let given = compared(library, settings, [b"ACGT", b"u"], [9, 9]);
-            let stale = vec![STALE; 9];
-            assert_eq!(given, (refused(number, 0, 0), stale.clone(), stale));
-            assert_eq!(library.need(settings, b"u", b""), REFUSED + number);
+            let given = compared(library, settings, [&over, b"u"], [9, 9]);
+            let mut stale = vec![STALE; 9];
+            assert_eq!(given, (refused(number, 0, 0), stale.clone(), stale.clone()));
+            let stopped = library.stopped(settings, b"u", &over, &mut stale, 0);
+            assert_eq!((stopped, stale), (refused(number, 0, 0), vec![STALE; 9]));
+            assert_eq!(library.need(settings, b"u", &over), REFUSED + number);
         }
         let widest = settings(31, 1_024, 1_024, 16_384);
         assert_eq!(library.need(widest, b"ACGT", b"ACGT"), 0);
@@ -118,12 +169,20 @@ fn sequences_too_long_or_with_other_letters() {
 
 #[test]
 fn the_stopped_sweep_at_every_row_of_p1() {
+    stopped_as_p1(P1, b"ACGGT");
+    // ACCGT turned round is P1's second sequence. The records stay turned, and
+    // fewer are needed than for both strands together.
+    stopped_as_p1(on_strand(REVERSE, P1), b"ACCGT");
+}
+
+fn stopped_as_p1(settings: Settings, second: &[u8]) {
     with_library(|library| {
-        let run = |row| {
-            let mut work = vec![STALE; 17];
-            let answer = library.stopped(P1, b"ACCGT", b"ACGGT", &mut work, row);
+        let run_in = |numbers, row| {
+            let mut work = vec![STALE; numbers];
+            let answer = library.stopped(settings, b"ACCGT", second, &mut work, row);
             (answer, work)
         };
+        let run = |row| run_in(17, row);
         let held = |records: &[u32]| {
             let mut work = records.to_vec();
             work.resize(17, 0);
@@ -139,6 +198,7 @@ fn the_stopped_sweep_at_every_row_of_p1() {
         assert_eq!(run(4), held(&[two, three].concat()));
         assert_eq!(run(5), (refused(19, 0, 4), vec![0; 17]));
         assert_eq!(run(u32::MAX), (refused(19, 0, 4), vec![0; 17]));
+        assert_eq!(run_in(15, 0), (refused(7, 0, 2), vec![0; 15]));
     });
 }
 
@@ -151,10 +211,18 @@ fn the_listing_lends_what_is_needed() {
             second_start: 1,
             second_end: 5,
             weight: 3,
+            strand: Strand::Forward,
         };
         let listing = library.list(P1, b"ACCGT", b"ACGGT").unwrap();
         assert_eq!(listing.entries, [entry]);
         assert_eq!((entry.first_span(), entry.second_span()), (5, 5));
+        let reverse = Entry {
+            weight: 4,
+            strand: Strand::Reverse,
+            ..entry
+        };
+        let listing = library.list(on_strand(BOTH, P1), b"ACCGT", b"ACGGT");
+        assert_eq!(listing.unwrap().entries, [entry, reverse]);
         // More entries than the first try has room for: with b 1, k 1 and one
         // letter every match of the last row and of the last column is closed.
         let many = library.list(settings(1, 1, 1_000, 0), &[b'A'; 500], &[b'A'; 500]);

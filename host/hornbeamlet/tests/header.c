@@ -1,12 +1,21 @@
-/* P1 and P4 of the document, asked from C through the header alone. */
+/* P1 and P4 of the document, forward and over both strands, asked from C
+ * through the header alone. */
 #include "hornbeamlet.h"
 
 #include <stdio.h>
 
 static const uint8_t first[] = {'A', 'C', 'C', 'G', 'T'};
 static const uint8_t second[] = {'A', 'C', 'G', 'G', 'T'};
-static uint32_t work[2 * HORNBEAMLET_RECORD];
-static uint32_t list[HORNBEAMLET_ENTRY];
+static uint32_t work[3 * HORNBEAMLET_RECORD];
+static uint32_t list[2 * HORNBEAMLET_ENTRY];
+
+static void print_numbers(const uint32_t *numbers, int count)
+{
+    int i;
+    for (i = 0; i < count; i++)
+        printf(" %u", (unsigned)numbers[i]);
+    printf("\n");
+}
 
 static void print_answer(const uint64_t answer[HORNBEAMLET_ANSWER])
 {
@@ -15,29 +24,44 @@ static void print_answer(const uint64_t answer[HORNBEAMLET_ANSWER])
         printf("%lu ", (unsigned long)answer[i]);
 }
 
-static void compare(size_t work_len)
+static uint64_t need(uint32_t k, uint32_t strand)
+{
+    return hornbeamlet_need(k, 2, 8, 0, strand, first, sizeof first, second,
+                            sizeof second);
+}
+
+static void compare(uint32_t strand, size_t work_len)
 {
     uint64_t answer[HORNBEAMLET_ANSWER];
-    hornbeamlet_compare(2, 2, 8, 0, first, sizeof first, second, sizeof second,
-                        work, work_len, list, HORNBEAMLET_ENTRY, answer);
+    hornbeamlet_compare(2, 2, 8, 0, strand, first, sizeof first, second,
+                        sizeof second, work, work_len, list,
+                        2 * HORNBEAMLET_ENTRY, answer);
     print_answer(answer);
-    printf("list %u %u %u %u %u\n", (unsigned)list[0], (unsigned)list[1],
-           (unsigned)list[2], (unsigned)list[3], (unsigned)list[4]);
+    printf("list");
+    print_numbers(list, 2 * HORNBEAMLET_ENTRY);
+}
+
+static void stopped(uint32_t strand)
+{
+    uint64_t answer[HORNBEAMLET_ANSWER];
+    hornbeamlet_stopped(2, 2, 8, 0, strand, first, sizeof first, second,
+                        sizeof second, work, 24, 3, answer);
+    print_answer(answer);
+    printf("work");
+    print_numbers(work + 8, 3);
 }
 
 int main(void)
 {
-    uint64_t answer[HORNBEAMLET_ANSWER];
-    printf("%lu\n", (unsigned long)hornbeamlet_need(
-        2, 2, 8, 0, first, sizeof first, second, sizeof second));
-    printf("%d\n", hornbeamlet_need(0, 2, 8, 0, first, sizeof first, second,
-                                    sizeof second) == HORNBEAMLET_REFUSED + 1);
-    compare(16);
-    compare(15);
-    hornbeamlet_stopped(2, 2, 8, 0, first, sizeof first, second, sizeof second,
-                        work, 16, 3, answer);
-    print_answer(answer);
-    printf("work %u %u %u\n", (unsigned)work[8], (unsigned)work[9],
-           (unsigned)work[10]);
+    printf("%lu %lu\n", (unsigned long)need(2, HORNBEAMLET_FORWARD),
+           (unsigned long)need(2, HORNBEAMLET_BOTH));
+    printf("%d %d\n", need(0, 2) == HORNBEAMLET_REFUSED + 1,
+           need(2, 2) == HORNBEAMLET_REFUSED + 9);
+    compare(HORNBEAMLET_FORWARD, 16);
+    compare(HORNBEAMLET_FORWARD, 15);
+    compare(HORNBEAMLET_BOTH, 24);
+    compare(HORNBEAMLET_BOTH, 23);
+    stopped(HORNBEAMLET_FORWARD);
+    stopped(HORNBEAMLET_REVERSE);
     return 0;
 }

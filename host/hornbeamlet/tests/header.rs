@@ -7,11 +7,14 @@ use std::path::Path;
 use std::process::Command;
 
 const EXPECTED: &str = "\
-2
-1
-0 0 0 1 3 2 2 list 1 5 1 5 3
-7 0 2 0 0 0 0 list 0 0 0 0 0
+2 3
+1 1
+0 0 0 1 3 2 2 list 1 5 1 5 3 0 0 0 0 0 0 0
+7 0 2 0 0 0 0 list 0 0 0 0 0 0 0 0 0 0 0 0
+0 0 0 2 7 3 7 list 1 5 1 5 3 0 1 5 1 5 4 1
+7 0 3 0 0 0 0 list 0 0 0 0 0 0 0 0 0 0 0 0
 0 0 0 2 3 2 2 work 3 2 2
+0 0 0 3 4 3 5 work 2 2 2
 ";
 
 #[test]

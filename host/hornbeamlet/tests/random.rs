@@ -22,7 +22,7 @@ use std::fmt::Debug;
 use std::iter::repeat_with;
 
 const RECORD: usize = 8;
-const ENTRY: usize = 5;
+const ENTRY: usize = 6;
 /// Numbers on either side of a lent room, which no call may touch.
 const MARGIN: usize = 16;
 
@@ -31,8 +31,8 @@ fn small_jobs_agree_with_the_reference() {
     let jobs = setting("HORNBEAMLET_JOBS", 20_000);
     let seen = compare_jobs(jobs, jobs::small);
     if jobs >= 5_000 {
-        let compared: BTreeSet<u64> = (0..=8).collect();
-        let stopped: BTreeSet<u64> = (0..=7).chain([19]).collect();
+        let compared: BTreeSet<u64> = (0..=9).collect();
+        let stopped: BTreeSet<u64> = (0..=7).chain([9, 19]).collect();
         assert_eq!(seen, (compared, stopped), "some answers never came");
     }
 }
@@ -61,7 +61,7 @@ fn compare_jobs(jobs: u64, make: fn(&mut Random) -> Job) -> (BTreeSet<u64>, BTre
             };
             let sizes = asked.needs();
             seen.0.insert(asked.compares(&mut random, sizes));
-            seen.1.insert(asked.stops(&mut random, sizes.0));
+            seen.1.insert(asked.stops(&mut random));
         }
     });
     seen
@@ -99,9 +99,17 @@ impl Asked<'_> {
         number
     }
 
+    /// The records that a stopped sweep needs, which names one strand and has a
+    /// need of its own.
+    fn stopped_needs(&self) -> usize {
+        let short = self.stopped_by(&Reference, &Room::new(0, || 0), 0).0;
+        let records = if short.number == 7 { short.detail } else { 0 };
+        records as usize
+    }
+
     /// Compares the answers and rooms of `stopped`, and tells the number.
-    fn stops(&self, random: &mut Random, records: usize) -> u64 {
-        let work = Room::lend(random, RECORD, records);
+    fn stops(&self, random: &mut Random) -> u64 {
+        let work = Room::lend(random, RECORD, self.stopped_needs());
         let row = self.some_row(random);
         let expected = self.stopped_by(&Reference, &work, row);
         let given = self.stopped_by(&self.proved, &work, row);
@@ -147,13 +155,14 @@ impl Asked<'_> {
         let settings = self.job.settings;
         panic!(
             "HORNBEAMLET_SEED={} disagrees\n\
-             op={op} k={} b={} a={} m={} s={} t={}\n\
+             op={op} k={} b={} a={} m={} strand={} s={} t={}\n\
              library   {given:?}\nreference {expected:?}",
             self.seed,
             settings.k,
             settings.b,
             settings.a,
             settings.m,
+            settings.strand,
             self.job.first.escape_ascii(),
             self.job.second.escape_ascii(),
         );

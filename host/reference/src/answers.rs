@@ -1,21 +1,25 @@
-//! Settings, checks, rooms and answers.
+//! Settings, checks, strands, rooms and answers.
 
 use crate::chains::{is_closed, sweep, Match};
 use crate::kmers::{count, matches, places, widest, Rows};
-use crate::letters::first_bad_place;
+use crate::letters::{first_bad_place, reverse_complement};
 use std::ops::RangeInclusive;
 
 /// "length of each sequence", 0 to 16,384 letters.
 pub const LONGEST: usize = 16_384;
 /// "Work room holds one record in each eight numbers".
 const RECORD: usize = 8;
-/// "list room one entry in each five".
-const ENTRY: usize = 5;
+/// "List room now counts six numbers an entry."
+pub const ENTRY: usize = 6;
 /// What `need` adds to a refusal number: "4,294,967,296 plus the refusal
-/// number 1 to 6".
+/// number 1 to 6", and 9 "also over the C boundary".
 const REFUSED_NEED: u64 = 4_294_967_296;
 
-/// The four settings of a job.
+/// The strands, as the sixth number of an entry names them.
+const FORWARD: u32 = 0;
+const REVERSE: u32 = 1;
+
+/// The settings of a job.
 #[derive(Clone, Copy, Debug, PartialEq, Eq)]
 pub struct Settings {
     /// The k-mer length.
@@ -26,6 +30,9 @@ pub struct Settings {
     pub a: u32,
     /// The least span in bases.
     pub m: u32,
+    /// "0 forward, 1 both"; the stopped sweep names one strand, "0 forward or 1
+    /// reverse".
+    pub strand: u32,
 }
 
 /// "The answer is a number, a sequence (0, 1 or 2), a detail, and four
@@ -48,22 +55,32 @@ pub struct Answer {
     pub links: u64,
 }
 
+/// "0 | done | 0, 0", with the four tallies.
+fn done(listed: u64, matches: u64, widest: u64, links: u64) -> Answer {
+    Answer {
+        number: 0,
+        sequence: 0,
+        detail: 0,
+        listed,
+        matches,
+        widest,
+        links,
+    }
+}
+
 /// "On refusal all four are 0."
 fn refused(number: u64, sequence: u64, detail: u64) -> Answer {
     Answer {
         number,
         sequence,
         detail,
-        listed: 0,
-        matches: 0,
-        widest: 0,
-        links: 0,
+        ..done(0, 0, 0, 0)
     }
 }
 
 /// The two sequences compared. "0 | done | 0, 0 | list: entries, then zeros;
-/// work: zeros". After 1 to 6 both rooms are "untouched", after 7 and 8 "both
-/// all zeros".
+/// work: zeros". After 1 to 6 and 9 both rooms are "untouched", after 7 and 8
+/// "both all zeros".
 pub fn compare(
     settings: Settings,
     first: &[u8],
@@ -76,13 +93,16 @@ pub fn compare(
     }
     work.fill(0);
     list.fill(0);
-    let job = Job::new(settings, first, second);
-    let listed = job.check_work(work).and_then(|()| job.list_into(list));
+    let jobs = jobs(settings, first, second);
+    let checked = check_work(larger_need(&jobs), work);
+    let listed = checked.and_then(|()| list_into(list, &jobs));
     listed.unwrap_or_else(|refusal| refusal)
 }
 
 /// "The stopped sweep takes the settings, both sequences, work room and a row
-/// r, with no list room; m is checked and not used."
+/// r, with no list room; m is checked and not used." It names "one strand, 0
+/// forward or 1 reverse, with its own need and tallies; only entries are turned
+/// back".
 pub fn stopped(
     settings: Settings,
     first: &[u8],
@@ -94,35 +114,37 @@ pub fn stopped(
         return refusal;
     }
     work.fill(0);
-    let job = Job::new(settings, first, second);
-    let checked = job.check_work(work).and_then(|()| job.check_row(row));
+    let job = Job::new(settings, settings.strand, first, second);
+    let checked = check_work(job.widest, work).and_then(|()| job.check_row(row));
     let held = checked.map(|()| job.hold_in(work, row));
     held.unwrap_or_else(|refusal| refusal)
 }
 
 /// "how much work room is needed. The reply is W, or 4,294,967,296 plus the
-/// refusal number 1 to 6."
+/// refusal number 1 to 6" or 9. Over both strands it is "the larger W".
 pub fn need(settings: Settings, first: &[u8], second: &[u8]) -> u64 {
     match check_inputs(settings, first, second) {
         Err(refusal) => REFUSED_NEED + refusal.number,
-        Ok(()) => Job::new(settings, first, second).widest,
+        Ok(()) => larger_need(&jobs(settings, first, second)),
     }
 }
 
 /// "Checks go from 1 to 8 [...] and the first that applies is given, even if a
-/// later one also does." These are 1 to 6, which leave the rooms untouched.
+/// later one also does." These are 1 to 6, which leave the rooms untouched, and
+/// "9, strand not 0 or 1, checked after 4".
 fn check_inputs(settings: Settings, first: &[u8], second: &[u8]) -> Result<(), Answer> {
     check_setting(1, settings.k, 1..=31)?;
     check_setting(2, settings.b, 1..=1_024)?;
     check_setting(3, settings.a, 1..=1_024)?;
     check_setting(4, settings.m, 0..=16_384)?;
+    check_setting(9, settings.strand, FORWARD..=REVERSE)?;
     check_length(1, first)?;
     check_length(2, second)?;
     check_letters(1, first)?;
     check_letters(2, second)
 }
 
-/// "k, b, a, m outside the table".
+/// "k, b, a, m outside the table", or "strand not 0 or 1".
 fn check_setting(number: u64, value: u32, accepted: RangeInclusive<u32>) -> Result<(), Answer> {
     if accepted.contains(&value) {
         Ok(())
@@ -149,34 +171,74 @@ fn check_letters(which: u64, sequence: &[u8]) -> Result<(), Answer> {
     }
 }
 
-/// A job whose settings, lengths and letters are accepted.
+/// "work room below W records", the detail W.
+fn check_work(widest: u64, work: &[u32]) -> Result<(), Answer> {
+    let records = (work.len() / RECORD) as u64;
+    if records < widest {
+        return Err(refused(7, 0, widest));
+    }
+    Ok(())
+}
+
+/// The strands that are compared: "0 forward, 1 both".
+fn jobs(settings: Settings, first: &[u8], second: &[u8]) -> Vec<Job> {
+    let strands = FORWARD..=settings.strand;
+    let jobs = strands.map(|strand| Job::new(settings, strand, first, second));
+    jobs.collect()
+}
+
+/// "Work room must hold the larger W, which is reported".
+fn larger_need(jobs: &[Job]) -> u64 {
+    jobs.iter().map(|job| job.widest).max().unwrap_or(0)
+}
+
+/// "list: entries, then zeros", or "list room below the number of entries", the
+/// detail that number. "forward entries come first", and the tallies but W "are
+/// sums". The room is all zeros already.
+fn list_into(list: &mut [u32], jobs: &[Job]) -> Result<Answer, Answer> {
+    let (entries, links): (Vec<_>, Vec<u64>) = jobs.iter().map(Job::listing).unzip();
+    let entries = entries.concat();
+    let listed = entries.len() as u64;
+    if ((list.len() / ENTRY) as u64) < listed {
+        return Err(refused(8, 0, listed));
+    }
+    for (lent, entry) in list.chunks_exact_mut(ENTRY).zip(&entries) {
+        lent.copy_from_slice(entry);
+    }
+    let matches = jobs.iter().map(|job| count(&job.rows)).sum();
+    let links = links.iter().sum();
+    Ok(done(listed, matches, larger_need(jobs), links))
+}
+
+/// The base job on one strand; settings, lengths and letters are accepted.
 struct Job {
     settings: Settings,
+    strand: u32,
     rows: Rows,
     row_count: u64,
+    second_letters: u32,
     widest: u64,
 }
 
 impl Job {
-    fn new(settings: Settings, first: &[u8], second: &[u8]) -> Job {
+    /// "The reverse sweep is the base job on the first sequence and the reverse
+    /// complement of the second, with totals of its own."
+    fn new(settings: Settings, strand: u32, first: &[u8], second: &[u8]) -> Job {
         let k = settings.k as usize;
-        let rows = matches(k, settings.a as usize, first, second);
+        let swept = match strand {
+            REVERSE => reverse_complement(second),
+            _ => second.to_vec(),
+        };
+        let rows = matches(k, settings.a as usize, first, &swept);
         let widest = widest(&rows, settings.b as usize);
         Job {
             settings,
+            strand,
             row_count: places(first.len(), k) as u64,
+            second_letters: second.len() as u32,
             rows,
             widest,
         }
-    }
-
-    /// "work room below W records", the detail W.
-    fn check_work(&self, work: &[u32]) -> Result<(), Answer> {
-        let records = (work.len() / RECORD) as u64;
-        if records < self.widest {
-            return Err(refused(7, 0, self.widest));
-        }
-        Ok(())
     }
 
     /// "stopped sweep: row above the number of rows", the detail that number.
@@ -187,31 +249,20 @@ impl Job {
         Ok(())
     }
 
-    /// "list: entries, then zeros", or "list room below the number of entries",
-    /// the detail that number. The room is all zeros already.
-    fn list_into(&self, list: &mut [u32]) -> Result<Answer, Answer> {
-        let swept = sweep(&self.rows, self.settings.b);
-        let entries = self.listing(&swept.rows);
-        let listed = entries.len() as u64;
-        if ((list.len() / ENTRY) as u64) < listed {
-            return Err(refused(8, 0, listed));
-        }
-        for (lent, entry) in list.chunks_exact_mut(ENTRY).zip(&entries) {
-            lent.copy_from_slice(entry);
-        }
-        Ok(self.done(listed, swept.links))
-    }
-
-    /// "The listing holds every closed match whose two spans are both at least
-    /// m, by end row, then end column. Both are compared as numbers."
-    fn listing(&self, rows: &[Vec<Match>]) -> Vec<[u32; ENTRY]> {
-        let b = self.settings.b;
-        let all = rows.iter().flatten();
+    /// The entries, and the link total beside them. "The listing holds every
+    /// closed match whose two spans are both at least m, by end row, then end
+    /// column. Both are compared as numbers." "reverse entries keep their
+    /// sweep's order", so the order comes before the turning back.
+    fn listing(&self) -> (Vec<[u32; ENTRY]>, u64) {
+        let Settings { b, m, .. } = self.settings;
+        let swept = sweep(&self.rows, b);
+        let all = swept.rows.iter().flatten();
         let closed = all.filter(|it| is_closed(&self.rows, it.row, it.column, b));
-        let wide = closed.filter(|it| self.spans(it).iter().all(|&span| span >= self.settings.m));
-        let mut entries: Vec<[u32; ENTRY]> = wide.map(|it| self.entry(it)).collect();
-        entries.sort_by_key(|entry| (entry[1], entry[3]));
-        entries
+        let wide = closed.filter(|it| self.spans(it).iter().all(|&span| span >= m));
+        let mut listed: Vec<&Match> = wide.collect();
+        listed.sort_by_key(|it| (it.row, it.column));
+        let entries = listed.into_iter().map(|it| self.entry(it));
+        (entries.collect(), swept.links)
     }
 
     /// "Spans of a closed match (i, j) started at (p, q): i + k - p bases and
@@ -222,15 +273,21 @@ impl Job {
     }
 
     /// "An entry is five 32-bit numbers: p, i + k - 1, q, j + k - 1, weight."
+    /// "Entries gain a sixth number, 0 or 1".
     fn entry(&self, it: &Match) -> [u32; ENTRY] {
         let k = self.settings.k;
-        [
-            it.start_row,
-            it.row + k - 1,
-            it.start_column,
-            it.column + k - 1,
-            it.weight,
-        ]
+        let [start, end] = self.in_second([it.start_column, it.column + k - 1]);
+        let row_end = it.row + k - 1;
+        [it.start_row, row_end, start, end, it.weight, self.strand]
+    }
+
+    /// "For a reverse entry, place p of the second sequence is reported as its
+    /// length plus 1 minus p, with start and end exchanged".
+    fn in_second(&self, [start, end]: [u32; 2]) -> [u32; 2] {
+        match self.strand {
+            REVERSE => [end, start].map(|place| self.second_letters + 1 - place),
+            _ => [start, end],
+        }
     }
 
     /// "It leaves the records of all matches in rows max(1, r - b) to r, by row
@@ -245,20 +302,8 @@ impl Job {
         for (lent, it) in work.chunks_exact_mut(RECORD).zip(&held) {
             lent.copy_from_slice(&record(it));
         }
-        self.done(held.len() as u64, swept.links)
-    }
-
-    /// "0 | done | 0, 0", with the four tallies.
-    fn done(&self, listed: u64, links: u64) -> Answer {
-        Answer {
-            number: 0,
-            sequence: 0,
-            detail: 0,
-            listed,
-            matches: count(&self.rows),
-            widest: self.widest,
-            links,
-        }
+        let matches = count(&self.rows);
+        done(held.len() as u64, matches, self.widest, swept.links)
     }
 }
 

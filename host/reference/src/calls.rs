@@ -1,9 +1,9 @@
 //! One question a line and its answer, as written in the vectors' calls.
 //!
 //! The question: `op=compare`, `op=stopped` or `op=need`, the settings `k=`,
-//! `b=`, `a=`, `m=`, the sequences `s=` and `t=` (`-` is empty,
-//! `rep:UNIT:COUNT` a repeat), the rooms' lengths `work=` and `list=` in
-//! numbers, and the row `row=` of a stopped sweep.
+//! `b=`, `a=`, `m=` and `strand=` (0 where it is not given), the sequences `s=`
+//! and `t=` (`-` is empty, `rep:UNIT:COUNT` a repeat), the rooms' lengths
+//! `work=` and `list=` in numbers, and the row `row=` of a stopped sweep.
 
 use crate::answers::{self, Answer, Settings};
 use std::str::FromStr;
@@ -104,15 +104,22 @@ fn answer_need(asked: &impl Calls, question: &str) -> Result<String, String> {
     Ok(format!("op=need reply={reply}"))
 }
 
-fn field<'a>(question: &'a str, name: &str) -> Result<&'a str, String> {
+fn given<'a>(question: &'a str, name: &str) -> Option<&'a str> {
     let pairs = question.split_whitespace();
     let mut pairs = pairs.filter_map(|pair| pair.split_once('='));
     let found = pairs.find(|pair| pair.0 == name);
-    found.map(|pair| pair.1).ok_or(format!("no {name}="))
+    found.map(|pair| pair.1)
+}
+
+fn field<'a>(question: &'a str, name: &str) -> Result<&'a str, String> {
+    given(question, name).ok_or(format!("no {name}="))
 }
 
 fn number<T: FromStr>(question: &str, name: &str) -> Result<T, String> {
-    let text = field(question, name)?;
+    parsed(name, field(question, name)?)
+}
+
+fn parsed<T: FromStr>(name: &str, text: &str) -> Result<T, String> {
     text.parse()
         .map_err(|_| format!("{name}={text} is no number"))
 }
@@ -123,6 +130,7 @@ fn job(question: &str) -> Result<(Settings, Vec<u8>, Vec<u8>), String> {
         b: number(question, "b")?,
         a: number(question, "a")?,
         m: number(question, "m")?,
+        strand: parsed("strand", given(question, "strand").unwrap_or("0"))?,
     };
     let first = sequence(field(question, "s")?)?;
     let second = sequence(field(question, "t")?)?;

@@ -14,11 +14,16 @@ pub const END: u8 = 0x04;
 pub const ENTRY: u8 = 0x10;
 /// "11 done".
 pub const DONE: u8 = 0x11;
+/// "Frame kind 12 [...] carries a reverse entry's five numbers, kind 10 stays
+/// forward".
+pub const REVERSE_ENTRY: u8 = 0x12;
 /// "1F refused".
 pub const REFUSED: u8 = 0x1F;
 
 /// Job: "k (1 byte), b, a, m (2 each)".
 pub(crate) const JOB_FIELDS: [usize; 4] = [1, 2, 2, 2];
+/// "a job of 8 payload bytes ends with the strand".
+pub(crate) const STRAND_JOB_FIELDS: [usize; 5] = [1, 2, 2, 2, 1];
 /// Entry: "the five numbers, 2 bytes each".
 const ENTRY_FIELDS: [usize; 5] = [2; 5];
 /// Done: "listed, M, W (4 each), link total (8)".
@@ -28,10 +33,15 @@ const REFUSED_FIELDS: [usize; 3] = [1, 1, 4];
 
 const CAPITAL_DIGITS: &[u8; 16] = b"0123456789ABCDEF";
 
-/// The writer of a job.
+/// The writer of a job: without its strand where that is 0, which a job of 7
+/// payload bytes means.
 pub fn write_job(settings: Settings, lent: &mut [u8]) -> (u64, usize) {
-    let values = [settings.k, settings.b, settings.a, settings.m];
-    lay(JOB, fields(values.map(u64::from), JOB_FIELDS), lent)
+    let Settings { k, b, a, m, strand } = settings;
+    let payload = match strand {
+        0 => fields([k, b, a, m].map(u64::from), JOB_FIELDS),
+        _ => fields([k, b, a, m, strand].map(u64::from), STRAND_JOB_FIELDS),
+    };
+    lay(JOB, payload, lent)
 }
 
 /// The writer of a piece of the first sequence (kind 2) or the second (kind 3).
@@ -47,9 +57,18 @@ pub fn write_end(lent: &mut [u8]) -> (u64, usize) {
     lay(END, Some(Vec::new()), lent)
 }
 
-/// The writer of an entry: p, i + k - 1, q, j + k - 1, weight.
+/// The writer of a forward entry: p, i + k - 1, q, j + k - 1, weight.
 pub fn write_entry(values: [u32; 5], lent: &mut [u8]) -> (u64, usize) {
-    lay(ENTRY, fields(values.map(u64::from), ENTRY_FIELDS), lent)
+    lay_entry(ENTRY, values, lent)
+}
+
+/// The writer of a reverse entry: the same five numbers, turned back.
+pub fn write_reverse_entry(values: [u32; 5], lent: &mut [u8]) -> (u64, usize) {
+    lay_entry(REVERSE_ENTRY, values, lent)
+}
+
+fn lay_entry(kind: u8, values: [u32; 5], lent: &mut [u8]) -> (u64, usize) {
+    lay(kind, fields(values.map(u64::from), ENTRY_FIELDS), lent)
 }
 
 /// The writer of a done frame: listed, M, W, link total.
@@ -139,9 +158,14 @@ pub struct Reading<const N: usize> {
     pub values: [u64; N],
 }
 
-/// The reader of an entry: p, i + k - 1, q, j + k - 1, weight.
+/// The reader of a forward entry: p, i + k - 1, q, j + k - 1, weight.
 pub fn read_entry(line: &[u8]) -> Reading<5> {
     read(ENTRY, ENTRY_FIELDS, line)
+}
+
+/// The reader of a reverse entry: the same five numbers, turned back.
+pub fn read_reverse_entry(line: &[u8]) -> Reading<5> {
+    read(REVERSE_ENTRY, ENTRY_FIELDS, line)
 }
 
 /// The reader of a done frame: listed, M, W, link total.

@@ -1,4 +1,4 @@
-//! The fifteen letters and their codes.
+//! The fifteen letters, their codes and their complements.
 
 /// "Each has a code, a set of four bits (A 1, C 2, G 4, T 8)".
 const LETTERS_AND_CODES: [(u8, u8); 15] = [
@@ -42,6 +42,26 @@ pub fn first_bad_place(sequence: &[u8]) -> Option<usize> {
         .iter()
         .position(|&letter| code_of(letter).is_none());
     bad.map(|before| before + 1)
+}
+
+/// "A letter's complement reverses the four bits of its code, so R becomes Y
+/// and N stays." None for what is no letter.
+pub fn complement(letter: u8) -> Option<u8> {
+    let code = code_of(letter)?;
+    let bits = [code & 1, code >> 1 & 1, code >> 2 & 1, code >> 3 & 1];
+    let reversed = bits.iter().fold(0, |above, bit| above << 1 | bit);
+    letter_of(reversed)
+}
+
+/// The reverse complement of a sequence: the last letter's complement first.
+///
+/// # Panics
+///
+/// If a byte of it is no letter; a job is turned after its letters are checked.
+pub fn reverse_complement(sequence: &[u8]) -> Vec<u8> {
+    let backwards = sequence.iter().rev();
+    let turned = backwards.map(|&letter| complement(letter).expect("one of the fifteen"));
+    turned.collect()
 }
 
 #[cfg(test)]
@@ -89,5 +109,23 @@ mod tests {
         assert_eq!(first_bad_place(b"ACGTN"), None);
         assert_eq!(first_bad_place(b"u"), Some(1));
         assert_eq!(first_bad_place(b"ACaU"), Some(3));
+    }
+
+    #[test]
+    fn the_complements_are_the_fields_own() {
+        for (letter, other) in b"ABCDGHKMNRSTVWY".iter().zip(b"TVGHCDMKNYSABWR") {
+            assert_eq!(complement(*letter), Some(*other));
+        }
+        assert!([b'U', b'a', b'-', 0]
+            .iter()
+            .all(|&byte| complement(byte).is_none()));
+    }
+
+    #[test]
+    fn turning_round_twice_gives_the_sequence_back() {
+        assert_eq!(reverse_complement(b""), b"");
+        assert_eq!(reverse_complement(b"AACGN"), b"NCGTT");
+        let all = b"ABCDGHKMNRSTVWY";
+        assert_eq!(reverse_complement(&reverse_complement(all)), all);
     }
 }

@@ -1,9 +1,9 @@
 //! The program `chain`, from its whole input to its whole output.
 
-use crate::answers::{compare, Answer, Settings, LONGEST};
+use crate::answers::{compare, Answer, Settings, ENTRY, LONGEST};
 use crate::frames::{
-    frame_of, numbers, write_done, write_entry, write_refused, Frame, END, FIRST_PIECE, JOB,
-    JOB_FIELDS, SECOND_PIECE,
+    frame_of, numbers, write_done, write_entry, write_refused, write_reverse_entry, Frame, END,
+    FIRST_PIECE, JOB, JOB_FIELDS, SECOND_PIECE, STRAND_JOB_FIELDS,
 };
 use crate::letters::letter_of;
 
@@ -37,13 +37,22 @@ fn run(job: &Input) -> Vec<u8> {
 /// The entries, then one done frame.
 fn listing(answer: &Answer, list: &[u32]) -> Vec<u8> {
     let mut output = Vec::new();
-    for entry in list.chunks_exact(5).take(answer.listed as usize) {
-        let values = [entry[0], entry[1], entry[2], entry[3], entry[4]];
-        output.extend(written(|lent| write_entry(values, lent)));
+    for entry in list.chunks_exact(ENTRY).take(answer.listed as usize) {
+        output.extend(entry_line(entry));
     }
     let tallies = [answer.listed, answer.matches, answer.widest, answer.links];
     output.extend(written(|lent| write_done(tallies, lent)));
     output
+}
+
+/// "Frame kind 12 [...] carries a reverse entry's five numbers, kind 10 stays
+/// forward".
+fn entry_line(entry: &[u32]) -> Vec<u8> {
+    let values = [entry[0], entry[1], entry[2], entry[3], entry[4]];
+    match entry[5] {
+        0 => written(|lent| write_entry(values, lent)),
+        _ => written(|lent| write_reverse_entry(values, lent)),
+    }
 }
 
 /// The line of a writer. Places, weights and lines all fit their fields here.
@@ -90,6 +99,7 @@ impl Input {
                 b: 0,
                 a: 0,
                 m: 0,
+                strand: 0,
             },
             first: Vec::new(),
             second: Vec::new(),
@@ -130,9 +140,18 @@ impl Input {
         }
     }
 
+    /// "a job of 8 payload bytes ends with the strand"; one of 7 bytes stays
+    /// valid and means strand 0. Any strand is read, since 9 refuses it later.
     fn take_job(&mut self, payload: &[u8]) -> Result<(), u64> {
-        let [k, b, a, m] = numbers(payload, JOB_FIELDS)?.map(|value| value as u32);
-        self.settings = Settings { k, b, a, m };
+        let values = match payload.len() {
+            8 => numbers(payload, STRAND_JOB_FIELDS)?,
+            _ => {
+                let [k, b, a, m] = numbers(payload, JOB_FIELDS)?;
+                [k, b, a, m, 0]
+            }
+        };
+        let [k, b, a, m, strand] = values.map(|value| value as u32);
+        self.settings = Settings { k, b, a, m, strand };
         Ok(())
     }
 }

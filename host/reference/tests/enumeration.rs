@@ -1,7 +1,9 @@
 //! Small random jobs against an enumeration of all chains, straight from the
-//! definitions and with nothing of the library but its answers.
+//! definitions and with nothing of the library but its answers. Every job is
+//! asked forward and over both strands, every sweep stopped on each strand.
 
 use reference::{compare, need, stopped, Answer, Settings};
+use std::slice::from_ref;
 
 /// A small seeded generator (a multiplier, an addend and a high half).
 struct Generator(u64);
@@ -28,6 +30,7 @@ impl Generator {
     }
 }
 
+#[derive(Clone)]
 struct Job {
     settings: Settings,
     first: Vec<u8>,
@@ -36,18 +39,33 @@ struct Job {
 
 fn random_job(seed: u64, longest: u64) -> Job {
     let mut random = Generator(seed);
-    let alphabet = random.one_of(&[b"A", b"AC", b"ACN", b"ACGT", b"ACGTRYN"]);
+    let alphabet = random.one_of(&[b"A", b"AC", b"AT", b"ATN", b"ACGT", b"ACGTRYN"]);
     let settings = Settings {
         k: random.from(1, 3),
         b: random.from(1, 5),
         a: random.from(1, 2 * longest),
         m: random.from(0, longest),
+        strand: 0,
     };
+    let first = random.sequence(alphabet, longest);
+    let second = random.sequence(alphabet, longest);
+    let is_turned = random.below(2) == 1;
     Job {
         settings,
-        first: random.sequence(alphabet, longest),
-        second: random.sequence(alphabet, longest),
+        first,
+        second: if is_turned { turned(&second) } else { second },
     }
+}
+
+/// The letters and, below each, its complement.
+const COMPLEMENTS: [&[u8; 15]; 2] = [b"ABCDGHKMNRSTVWY", b"TVGHCDMKNYSABWR"];
+
+fn turned(sequence: &[u8]) -> Vec<u8> {
+    let complement = |letter: &u8| {
+        let at = COMPLEMENTS[0].iter().position(|it| it == letter);
+        COMPLEMENTS[1][at.unwrap()]
+    };
+    sequence.iter().rev().map(complement).collect()
 }
 
 type Place = (i64, i64);
@@ -71,6 +89,13 @@ fn kmer(sequence: &[u8], k: usize, place: i64) -> Option<&[u8]> {
 }
 
 impl Job {
+    fn on_strand(&self, strand: u32) -> Settings {
+        Settings {
+            strand,
+            ..self.settings
+        }
+    }
+
     fn k(&self) -> usize {
         self.settings.k as usize
     }
@@ -171,16 +196,16 @@ impl Job {
         !pairs.any(|(x, y)| matches.contains(&(row + x, column + y)))
     }
 
-    fn entries(&self, found: &[Found]) -> Vec<u32> {
+    /// First and last place in the first sequence, in the second, and weight.
+    fn entries(&self, found: &[Found]) -> Vec<[u32; 5]> {
         let (k, m) = (i64::from(self.settings.k), i64::from(self.settings.m));
         let matches: Vec<Place> = found.iter().map(|it| it.at).collect();
         let mut list = Vec::new();
         for it in found.iter().filter(|it| self.is_closed(&matches, it.at)) {
             let ((i, j), (p, q)) = (it.at, it.start);
             if i + k - p >= m && j + k - q >= m {
-                let places = [p, i + k - 1, q, j + k - 1];
-                list.extend(places.map(|place| place as u32));
-                list.push(it.weight);
+                let [p, i, q, j] = [p, i + k - 1, q, j + k - 1].map(|place| place as u32);
+                list.push([p, i, q, j, it.weight]);
             }
         }
         list
@@ -209,23 +234,85 @@ fn beats(one: &Found, other: &Found) -> bool {
     one.at.0 < other.at.0
 }
 
-fn done(listed: usize, found: &[Found], widest: usize) -> Answer {
+/// One strand of a job: the sequences as they are swept, what is found there,
+/// and for each letter of the second sequence its place before it was turned.
+struct Strand {
+    number: u32,
+    swept: Job,
+    found: Vec<Found>,
+    places_before: Vec<u32>,
+}
+
+impl Strand {
+    fn forward(job: &Job) -> Strand {
+        Strand {
+            number: 0,
+            swept: job.clone(),
+            found: Vec::new(),
+            places_before: (1..=job.second.len() as u32).collect(),
+        }
+    }
+
+    fn reverse(job: &Job) -> Strand {
+        let mut strand = Strand::forward(job);
+        strand.number = 1;
+        strand.swept.second = turned(&job.second);
+        strand.places_before.reverse();
+        strand
+    }
+
+    fn both(job: &Job) -> [Strand; 2] {
+        [Strand::forward(job), Strand::reverse(job)]
+    }
+
+    fn find(mut self, enumerate: bool) -> Strand {
+        self.found = self.swept.find(enumerate);
+        self
+    }
+
+    fn widest(&self) -> usize {
+        self.swept.widest(&self.found)
+    }
+
+    fn links(&self) -> u64 {
+        self.found.iter().map(|it| it.links).sum()
+    }
+
+    /// The entries with the places of the second sequence as it was given, the
+    /// smaller first.
+    fn entries(&self) -> Vec<u32> {
+        let before = |place: u32| self.places_before[place as usize - 1];
+        let given = |[p, i, q, j, weight]: [u32; 5]| {
+            let (one, other) = (before(q), before(j));
+            [p, i, one.min(other), one.max(other), weight, self.number]
+        };
+        let entries = self.swept.entries(&self.found).into_iter();
+        entries.flat_map(given).collect()
+    }
+}
+
+/// The answer of some strands together.
+fn done(listed: usize, strands: &[Strand]) -> Answer {
     Answer {
         number: 0,
         sequence: 0,
         detail: 0,
         listed: listed as u64,
-        matches: found.len() as u64,
-        widest: widest as u64,
-        links: found.iter().map(|it| it.links).sum(),
+        matches: strands.iter().map(|it| it.found.len() as u64).sum(),
+        widest: widest(strands) as u64,
+        links: strands.iter().map(Strand::links).sum(),
     }
+}
+
+fn widest(strands: &[Strand]) -> usize {
+    strands.iter().map(Strand::widest).max().unwrap_or(0)
 }
 
 fn refused(number: u64, detail: u64) -> Answer {
     Answer {
         number,
         detail,
-        ..done(0, &[], 0)
+        ..done(0, &[])
     }
 }
 
@@ -247,19 +334,23 @@ fn padded(mut room: Vec<u32>, length: usize) -> Vec<u32> {
     room
 }
 
-/// The listing with rooms that just do, that do with a remainder, and that are
-/// one number short.
-fn check_listing(seed: u64, job: &Job, found: &[Found]) {
-    let (entries, widest) = (job.entries(found), job.widest(found));
-    let (listed, fitting) = (entries.len() / 5, 8 * widest);
+/// The listing of one strand or of both, with rooms that just do, that do with
+/// a remainder, and that are one number short.
+fn check_listing(seed: u64, job: &Job, strands: &[Strand]) {
+    let entries: Vec<u32> = strands.iter().flat_map(Strand::entries).collect();
+    let widest = widest(strands);
+    let (listed, fitting) = (entries.len() / 6, 8 * widest);
+    let settings = job.on_strand(strands.len() as u32 - 1);
     let run = |work: usize, list: usize| {
         let (mut work, mut list) = (lent(work), lent(list));
-        let answer = compare(job.settings, &job.first, &job.second, &mut work, &mut list);
+        let answer = compare(settings, &job.first, &job.second, &mut work, &mut list);
         (answer, work, list)
     };
-    for more in [0, 4] {
+    let reply = need(settings, &job.first, &job.second);
+    assert_eq!(reply, widest as u64, "seed {seed}");
+    for more in [0, 5] {
         let list = padded(entries.clone(), entries.len() + more);
-        let expected = (done(listed, found, widest), vec![0; fitting + more], list);
+        let expected = (done(listed, strands), vec![0; fitting + more], list);
         let given = run(fitting + more, entries.len() + more);
         assert_eq!(given, expected, "seed {seed}");
     }
@@ -274,64 +365,78 @@ fn check_listing(seed: u64, job: &Job, found: &[Found]) {
     }
 }
 
-/// The stopped sweep after every row, and after one row too many.
-fn check_stopped(seed: u64, job: &Job, found: &[Found]) {
-    let widest = job.widest(found);
+/// The sweep of one strand stopped after every row, and after one row too many.
+/// Its records are not turned back.
+fn check_stopped(seed: u64, job: &Job, strand: &Strand) {
+    let widest = strand.widest();
     let rows = job.places(&job.first);
-    let run = |row: i64| {
-        let mut work = lent(8 * widest + 3);
-        let answer = stopped(job.settings, &job.first, &job.second, &mut work, row as u32);
+    let settings = job.on_strand(strand.number);
+    let run = |row: i64, numbers: usize| {
+        let mut work = lent(numbers);
+        let answer = stopped(settings, &job.first, &job.second, &mut work, row as u32);
         (answer, work)
     };
+    let enough = 8 * widest + 3;
     for row in 0..=rows {
-        let held = job.window(found, row);
-        let work = padded(records(&held), 8 * widest + 3);
-        let expected = (done(held.len(), found, widest), work);
-        assert_eq!(run(row), expected, "seed {seed} row {row}");
+        let held = strand.swept.window(&strand.found, row);
+        let work = padded(records(&held), enough);
+        let expected = (done(held.len(), from_ref(strand)), work);
+        assert_eq!(run(row, enough), expected, "seed {seed} row {row}");
     }
-    let expected = (refused(19, rows as u64), vec![0; 8 * widest + 3]);
-    assert_eq!(run(rows + 1), expected, "seed {seed}");
+    let expected = (refused(19, rows as u64), vec![0; enough]);
+    assert_eq!(run(rows + 1, enough), expected, "seed {seed}");
+    if widest > 0 {
+        let short = 8 * widest - 1;
+        let expected = (refused(7, widest as u64), vec![0; short]);
+        assert_eq!(run(0, short), expected, "seed {seed}");
+    }
 }
 
 /// "W is at most (b + 1)(a - 1)." The link total "is at most
 /// M((b + 1) min(a - 1, b + 1) - 1). With a = 1 there are no matches".
-fn check_bounds(seed: u64, job: &Job, found: &[Found]) {
+fn check_bounds(seed: u64, job: &Job, strand: &Strand) {
     let (b, a) = (u64::from(job.settings.b), u64::from(job.settings.a));
-    let links: u64 = found.iter().map(|it| it.links).sum();
     let of_one_match = ((b + 1) * (a - 1).min(b + 1)).saturating_sub(1);
-    assert!(job.widest(found) as u64 <= (b + 1) * (a - 1), "seed {seed}");
-    assert!(links <= found.len() as u64 * of_one_match, "seed {seed}");
+    let most_links = strand.found.len() as u64 * of_one_match;
+    assert!(strand.widest() as u64 <= (b + 1) * (a - 1), "seed {seed}");
+    assert!(strand.links() <= most_links, "seed {seed}");
 }
 
-fn check(seed: u64, job: &Job, found: &[Found]) {
-    check_listing(seed, job, found);
-    check_stopped(seed, job, found);
-    check_bounds(seed, job, found);
-    let reply = need(job.settings, &job.first, &job.second);
-    assert_eq!(reply, job.widest(found) as u64, "seed {seed}");
+fn check(seed: u64, job: &Job, strands: &[Strand; 2]) {
+    check_listing(seed, job, &strands[..1]);
+    check_listing(seed, job, strands);
+    for strand in strands {
+        check_stopped(seed, job, strand);
+        check_bounds(seed, job, strand);
+    }
 }
 
 #[test]
 fn small_jobs_agree_with_the_enumeration_of_all_chains() {
-    let (mut tried, mut with_links) = (0, 0);
+    let (mut tried, mut with_links) = (0, [0, 0]);
     for seed in 1..=9_000 {
         let job = random_job(seed, 7);
-        if job.matches().len() > 16 {
+        let strands = Strand::both(&job);
+        if strands.iter().any(|it| it.swept.matches().len() > 16) {
             continue;
         }
-        let found = job.find(true);
-        check(seed, &job, &found);
+        let strands = strands.map(|it| it.find(true));
+        check(seed, &job, &strands);
         tried += 1;
-        with_links += u32::from(found.iter().any(|it| it.links > 1));
+        for (count, strand) in with_links.iter_mut().zip(&strands) {
+            *count += u32::from(strand.found.iter().any(|it| it.links > 1));
+        }
     }
     assert!(tried > 6_000, "too few jobs: {tried}");
-    assert!(with_links > 1_000, "too few jobs with links: {with_links}");
+    let enough = with_links.iter().all(|&it| it > 1_000);
+    assert!(enough, "too few jobs with links: {with_links:?}");
 }
 
 #[test]
 fn longer_jobs_agree_with_the_definitions_over_all_pairs() {
     for seed in 10_001..=10_300 {
         let job = random_job(seed, 24);
-        check(seed, &job, &job.find(false));
+        let strands = Strand::both(&job).map(|it| it.find(false));
+        check(seed, &job, &strands);
     }
 }

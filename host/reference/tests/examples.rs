@@ -1,11 +1,22 @@
-//! The examples in the registry, P1 to P11, and the boundaries named there.
+//! The examples in the registry, P1 to P11, the boundaries named there, and the
+//! same on the reverse strand.
 
 use reference::{chain, compare, need, stopped, Answer, Settings};
 
 const STALE: u32 = 77;
 
 fn settings(k: u32, b: u32, a: u32, m: u32) -> Settings {
-    Settings { k, b, a, m }
+    let strand = 0;
+    Settings { k, b, a, m, strand }
+}
+
+/// The same settings with strand 1: both strands, or the reverse one where the
+/// sweep is stopped.
+fn strand_1(settings: Settings) -> Settings {
+    Settings {
+        strand: 1,
+        ..settings
+    }
 }
 
 fn answer(refusal: [u64; 3], tallies: [u64; 4]) -> Answer {
@@ -26,6 +37,12 @@ fn done(tallies: [u64; 4]) -> Answer {
 
 fn refused(number: u64, sequence: u64, detail: u64) -> Answer {
     answer([number, sequence, detail], [0; 4])
+}
+
+/// The document's five numbers of each entry, with the sixth.
+fn on_strand(strand: u32, entries: &[[u32; 5]]) -> Vec<u32> {
+    let whole = entries.iter().flat_map(|it| it.iter().chain([&strand]));
+    whole.copied().collect()
 }
 
 /// The numbers given, then zeros up to the length of the room.
@@ -60,9 +77,14 @@ impl Example<'_> {
         (answer, work, list)
     }
 
-    fn gives(&self, answer: Answer, entries: &[[u32; 5]]) {
+    fn gives(&self, answer: Answer, forward: &[[u32; 5]]) {
+        self.gives_both(answer, forward, &[]);
+    }
+
+    fn gives_both(&self, answer: Answer, forward: &[[u32; 5]], reverse: &[[u32; 5]]) {
         let work = vec![0; self.rooms.0];
-        let list = then_zeros(&entries.concat(), self.rooms.1);
+        let entries = [on_strand(0, forward), on_strand(1, reverse)].concat();
+        let list = then_zeros(&entries, self.rooms.1);
         assert_eq!(self.run(), (answer, work, list));
     }
 
@@ -181,7 +203,7 @@ fn the_stopped_sweep_at_its_other_rows() {
 #[test]
 fn a_list_room_too_small_by_one_number() {
     let mut short = p5();
-    short.rooms.1 = 24;
+    short.rooms.1 = 29;
     short.gives(refused(8, 0, 5), &[]);
     short.rooms.0 = 47;
     short.gives(refused(7, 0, 6), &[]);
@@ -223,6 +245,7 @@ fn the_room_needed_or_the_refusal() {
     assert_eq!(need(settings(1, 0, 1, 0), b"", b""), base + 2);
     assert_eq!(need(settings(1, 1, 0, 0), b"", b""), base + 3);
     assert_eq!(need(settings(1, 1, 1, 16_385), b"", b""), base + 4);
+    assert_eq!(need(strand_2(), b"x", &over), base + 9);
     assert_eq!(need(settings(1, 1, 1, 0), b"x", &over), base + 5);
     assert_eq!(need(settings(1, 1, 1, 0), b"", b"x"), base + 6);
     assert_eq!(need(settings(1, 1, 6, 0), b"AAA", b"AAA"), 6);
@@ -238,6 +261,115 @@ fn the_tie_between_columns_decides_the_start() {
     tie.gives(done([2, 3, 3, 2]), &[[3, 3, 1, 1, 1], [3, 3, 1, 4, 2]]);
 }
 
+/// A strand that is refused; all else is accepted.
+fn strand_2() -> Settings {
+    Settings {
+        strand: 2,
+        ..settings(1, 1, 1, 0)
+    }
+}
+
+#[test]
+fn a_strand_that_is_none_is_refused_after_m_and_before_the_lengths() {
+    let over = vec![b'A'; 16_385];
+    let mut bad = example(strand_2(), b"x", &over);
+    bad.leaves_untouched(refused(9, 0, 0));
+    let mut work = vec![STALE; 9];
+    let held = stopped(bad.settings, b"x", &over, &mut work, 7);
+    assert_eq!((held, work), (refused(9, 0, 0), vec![STALE; 9]));
+    bad.settings.strand = u32::MAX;
+    bad.leaves_untouched(refused(9, 0, 0));
+    bad.settings.m = 16_385;
+    bad.leaves_untouched(refused(4, 0, 0));
+}
+
+/// P1 on both strands. Its second sequence turned round is its first, so the
+/// reverse sweep finds the first sequence in itself: (1,1), (2,2), (3,3), (4,4).
+fn p1_on_both() -> Example<'static> {
+    let mut p1 = p1();
+    p1.settings.strand = 1;
+    p1
+}
+
+#[test]
+fn both_strands_of_p1() {
+    let (forward, reverse) = ([[1, 5, 1, 5, 3]], [[1, 5, 1, 5, 4]]);
+    p1_on_both().gives_both(done([2, 7, 3, 7]), &forward, &reverse);
+}
+
+#[test]
+fn the_larger_need_of_both_strands_decides() {
+    assert_eq!(need(p1().settings, b"ACCGT", b"ACGGT"), 2);
+    assert_eq!(need(p1_on_both().settings, b"ACCGT", b"ACGGT"), 3);
+    let mut both = p1_on_both();
+    both.rooms = (24, 12);
+    assert_eq!(both.run().0, done([2, 7, 3, 7]));
+    both.rooms = (24, 11);
+    both.gives(refused(8, 0, 2), &[]);
+    both.rooms = (23, 11);
+    both.gives(refused(7, 0, 3), &[]);
+}
+
+#[test]
+fn reverse_places_are_turned_back_by_the_letters_of_the_second() {
+    // NNACCGT turned round is ACGGTNN, with P1's matches at P1's places.
+    let turned = example(strand_1(settings(2, 2, 8, 0)), b"ACCGT", b"NNACCGT");
+    let (forward, reverse) = ([[1, 5, 3, 7, 4]], [[1, 5, 3, 7, 3]]);
+    turned.gives_both(done([2, 7, 3, 7]), &forward, &reverse);
+}
+
+#[test]
+fn reverse_entries_keep_the_order_of_their_sweep() {
+    // TTT turned round is AAA, and the reverse sweep is P5's.
+    let entries = [
+        [1, 1, 1, 3, 3],
+        [1, 2, 1, 3, 4],
+        [1, 3, 3, 3, 3],
+        [1, 3, 2, 3, 4],
+        [1, 3, 1, 3, 5],
+    ];
+    let turned = example(strand_1(p5().settings), b"AAA", b"TTT");
+    turned.gives_both(done([5, 9, 6, 16]), &[], &entries);
+    // ACCGT turned round is P2's second sequence.
+    let entries = [[1, 2, 4, 5, 1], [3, 4, 3, 4, 1], [4, 5, 1, 2, 1]];
+    let mut p2 = example(strand_1(settings(2, 1, 8, 0)), b"ACCGT", b"ACCGT");
+    p2.gives_both(done([4, 7, 2, 3]), &[[1, 5, 1, 5, 4]], &entries);
+    p2.settings.m = 3;
+    p2.gives(done([1, 7, 2, 3]), &[[1, 5, 1, 5, 4]]);
+}
+
+#[test]
+fn each_strand_has_totals_of_its_own() {
+    // AAAT turned round is ATTT: six As in both together forward, four reverse.
+    let with_cap = |a| example(strand_1(settings(1, 1, a, 0)), b"AAA", b"AAAT");
+    let reverse = [[1, 1, 4, 4, 1], [1, 2, 4, 4, 2], [1, 3, 4, 4, 3]];
+    with_cap(5).gives_both(done([3, 3, 2, 2]), &[], &reverse);
+    with_cap(3).gives(done([0; 4]), &[]);
+    assert_eq!(with_cap(6).run().0, done([8, 12, 6, 18]));
+}
+
+#[test]
+fn a_sequence_that_is_its_own_reverse_complement_is_listed_twice() {
+    let same = example(strand_1(settings(2, 2, 8, 0)), b"ACGT", b"ACGT");
+    let entry = [[1, 4, 1, 4, 3]];
+    same.gives_both(done([2, 6, 3, 6]), &entry, &entry);
+}
+
+#[test]
+fn the_stopped_sweep_of_the_reverse_strand() {
+    // ACCGT turned round is P1's second sequence; its records are P11's.
+    let reverse = strand_1(p1().settings);
+    let run = |numbers: usize| {
+        let mut work = vec![STALE; numbers];
+        let held = stopped(reverse, b"ACCGT", b"ACCGT", &mut work, 3);
+        (held, work)
+    };
+    let records = [1, 1, 1, 1, 1, 0, 0, 0, 3, 2, 2, 1, 1, 0, 0, 0];
+    assert_eq!(run(16), (done([2, 3, 2, 2]), records.to_vec()));
+    assert_eq!(run(15), (refused(7, 0, 2), vec![0; 15]));
+    assert_eq!(need(reverse, b"ACCGT", b"ACCGT"), 3);
+}
+
 const P1_INPUT: &str = "010702000200080000EC\n020312248045\n030312448024\n0400FC\n";
 
 #[test]
@@ -251,4 +383,30 @@ fn p1_through_chain() {
 fn p1_through_chain_with_k_0() {
     let input = P1_INPUT.replace("010702000200080000EC", "010700000200080000EE");
     assert_eq!(chain(input.as_bytes()), b"1F06010000000000DA\n");
+}
+
+/// P1's input with a job of 8 payload bytes, the last of them the strand.
+fn p1_input_on(job_line: &str) -> String {
+    P1_INPUT.replace("010702000200080000EC", job_line)
+}
+
+#[test]
+fn p1_through_chain_on_both_strands() {
+    let output = "100A00010005000100050003D7\n\
+                  120A00010005000100050004D4\n\
+                  11140000000200000007000000030000000000000007C8\n";
+    let input = p1_input_on("01080200020008000001EA");
+    assert_eq!(chain(input.as_bytes()), output.as_bytes());
+}
+
+#[test]
+fn p1_through_chain_with_the_strand_0_written_out() {
+    let input = p1_input_on("01080200020008000000EB");
+    assert_eq!(chain(input.as_bytes()), chain(P1_INPUT.as_bytes()));
+}
+
+#[test]
+fn p1_through_chain_with_strand_2() {
+    let input = p1_input_on("01080200020008000002E9");
+    assert_eq!(chain(input.as_bytes()), b"1F06090000000000D2\n");
 }

@@ -1,12 +1,13 @@
 //! Writers, readers and the input refusals 20 to 26.
 
 use reference::{
-    chain, read_done, read_entry, read_refused, write_done, write_end, write_entry, write_job,
-    write_piece, write_refused, Reading, Settings,
+    chain, read_done, read_entry, read_refused, read_reverse_entry, write_done, write_end,
+    write_entry, write_job, write_piece, write_refused, write_reverse_entry, Reading, Settings,
 };
 
 const JOB_LINE: &[u8] = b"010702000200080000EC\n";
 const ENTRY_LINE: &[u8] = b"100A00010005000100050003D7\n";
+const REVERSE_LINE: &[u8] = b"120A00010005000100050003D5\n";
 const DONE_LINE: &[u8] = b"11140000000100000003000000020000000000000002D3\n";
 const REFUSED_LINE: &[u8] = b"1F06010000000000DA\n";
 
@@ -32,7 +33,11 @@ fn declines(writer: impl Fn(&mut [u8]) -> (u64, usize)) {
 }
 
 fn job(k: u32, b: u32, a: u32, m: u32) -> Settings {
-    Settings { k, b, a, m }
+    job_on(0, [k, b, a, m])
+}
+
+fn job_on(strand: u32, [k, b, a, m]: [u32; 4]) -> Settings {
+    Settings { k, b, a, m, strand }
 }
 
 #[test]
@@ -52,8 +57,23 @@ fn the_worked_frames_are_written() {
     );
     writes(write_end, b"0400FC\n");
     writes(|lent| write_entry([1, 5, 1, 5, 3], lent), ENTRY_LINE);
+    writes(
+        |lent| write_reverse_entry([1, 5, 1, 5, 3], lent),
+        REVERSE_LINE,
+    );
     writes(|lent| write_done([1, 3, 2, 2], lent), DONE_LINE);
     writes(|lent| write_refused([1, 0, 0], lent), REFUSED_LINE);
+}
+
+#[test]
+fn a_strand_that_is_not_0_is_written_at_the_end_of_its_job() {
+    let on = |strand| move |lent: &mut [u8]| write_job(job_on(strand, [2, 2, 8, 0]), lent);
+    writes(on(0), JOB_LINE);
+    writes(on(1), b"01080200020008000001EA\n");
+    writes(on(2), b"01080200020008000002E9\n");
+    writes(on(255), b"010802000200080000FFEC\n");
+    declines(on(256));
+    declines(on(u32::MAX));
 }
 
 #[test]
@@ -80,8 +100,10 @@ fn values_that_do_not_fit_give_27() {
     for at in 0..5 {
         let mut values = [65_535; 5];
         assert_eq!(write_entry(values, &mut [0; 27]), (0, 27));
+        assert_eq!(write_reverse_entry(values, &mut [0; 27]), (0, 27));
         values[at] = over;
         declines(|lent| write_entry(values, lent));
+        declines(|lent| write_reverse_entry(values, lent));
     }
     for at in 0..3 {
         let mut values = [4_294_967_295, 4_294_967_295, 4_294_967_295, u64::MAX];
@@ -119,6 +141,8 @@ fn reading<const N: usize>(number: u64, values: [u64; N]) -> Reading<N> {
 #[test]
 fn the_worked_frames_are_read() {
     assert_eq!(read_entry(ENTRY_LINE), reading(0, [1, 5, 1, 5, 3]));
+    let reverse = read_reverse_entry(REVERSE_LINE);
+    assert_eq!(reverse, reading(0, [1, 5, 1, 5, 3]));
     assert_eq!(read_done(DONE_LINE), reading(0, [1, 3, 2, 2]));
     assert_eq!(read_refused(REFUSED_LINE), reading(0, [1, 0, 0]));
 }
@@ -152,10 +176,13 @@ fn readers_refuse_in_order() {
     assert_eq!(entry(b"100B00010005000100050003D7\n"), 21);
     assert_eq!(entry(b"110A00010005000100050003D7\n"), 22);
     assert_eq!(entry(DONE_LINE), 23);
+    assert_eq!(entry(REVERSE_LINE), 23);
     assert_eq!(entry(b"0400FC\n"), 23);
     assert_eq!(entry(b"1000F0\n"), 25);
     assert_eq!(entry(b"100B0001000500010005000300D6\n"), 25);
     assert_eq!(read_done(ENTRY_LINE).number, 23);
+    assert_eq!(read_reverse_entry(ENTRY_LINE).number, 23);
+    assert_eq!(read_reverse_entry(b"1200EE\n").number, 25);
     assert_eq!(read_refused(b"1F0100E0\n").number, 25);
 }
 
@@ -221,11 +248,13 @@ fn lines_of_134_digits_are_the_longest() {
 
 #[test]
 fn payloads_wrong_for_their_kind_give_25() {
-    gives(&line_of(&[1, 0]), &refused_at(25, 1));
-    gives(
-        &line_of(&[1, 8, 2, 0, 2, 0, 8, 0, 0, 0]),
-        &refused_at(25, 1),
-    );
+    for bad in [
+        line_of(&[1, 0]),
+        line_of(&[1, 6, 2, 0, 2, 0, 8, 0]),
+        line_of(&[1, 9, 2, 0, 2, 0, 8, 0, 0, 0, 0]),
+    ] {
+        gives(&bad, &refused_at(25, 1));
+    }
     for bad in [
         line_of(&[2, 0]),
         line_of(&[2, 1, 0x00]),
@@ -241,6 +270,25 @@ fn payloads_wrong_for_their_kind_give_25() {
 }
 
 #[test]
+fn a_reverse_entry_is_no_frame_of_an_input() {
+    let reverse = String::from_utf8(REVERSE_LINE.to_vec()).unwrap();
+    gives(&format!("{JOB}{reverse}{END}"), &refused_at(23, 2));
+}
+
+#[test]
+fn the_strand_of_a_job_is_its_eighth_byte() {
+    let job = |strand: u8| line_of(&[1, 8, 2, 0, 2, 0, 8, 0, 0, strand]);
+    for strand in [0, 1] {
+        gives(&format!("{}{END}", job(strand)), NOTHING);
+    }
+    for strand in [2, 255] {
+        gives(&format!("{}{END}", job(strand)), &refused_at(9, 0));
+    }
+    // what is wrong with a line comes before what is wrong with the strand
+    gives(&format!("{}{JOB}{END}", job(2)), &refused_at(24, 2));
+}
+
+#[test]
 fn a_sequence_passing_16_384_letters_gives_26() {
     let whole = line_of(&[&[2, 64][..], &[0xFF; 64]].concat()).repeat(128);
     gives(&format!("{JOB}{whole}{END}"), NOTHING);
@@ -252,13 +300,27 @@ fn a_sequence_passing_16_384_letters_gives_26() {
 #[test]
 fn the_rooms_that_chain_lends() {
     let job = |a: u8| line_of(&[1, 7, 1, 4, 0, 0, a, 0, 0]);
-    let rows =
-        |count: usize| line_of(&[&[2, count as u8 / 2][..], &vec![0x11; count / 2]].concat());
-    let columns =
-        |count: usize| line_of(&[&[3, count as u8 / 2][..], &vec![0x11; count / 2]].concat());
+    let (rows, columns) = (|count| letters_a(2, count), |count| letters_a(3, count));
     // 16 rows of 32 matches are 512 records, which 4,096 numbers just hold.
     let fits = chain(format!("{}{}{}{END}", job(48), rows(16), columns(32)).as_bytes());
     assert!(fits.starts_with(b"100A"));
     let over = format!("{}{}{}{END}", job(52), rows(18), columns(32));
     gives(&over, &line_of(&[0x1F, 6, 7, 0, 0, 0, 2, 64]));
+    // With b 1 the last row and the last column are closed. 2,000 numbers of
+    // list room hold 333 entries of six.
+    let job = line_of(&[1, 7, 1, 0, 1, 4, 0, 0, 0]);
+    let with_rows = |count| {
+        let columns = columns(128) + &columns(128);
+        format!("{job}{}{columns}{END}", rows(count))
+    };
+    let fits = chain(with_rows(78).as_bytes());
+    assert_eq!(fits.split(|&byte| byte == b'\n').count(), 333 + 2);
+    gives(&with_rows(79), &line_of(&[0x1F, 6, 8, 0, 0, 0, 1, 78]));
+}
+
+/// A piece of so many As.
+fn letters_a(kind: u8, count: usize) -> String {
+    let mut lent = [0; 135];
+    let (_, length) = write_piece(kind, &vec![1; count], &mut lent);
+    String::from_utf8(lent[..length].to_vec()).unwrap()
 }

@@ -2,8 +2,10 @@
 use mathlib.Core.Path.{ap, _∙_}
 use Rattle.rules.specs.declared.Answer.{Answer}
 use Rattle.rules.specs.Answers.{Outcome}
+use Rattle.rules.specs.Strands.{onStrand}
 use Rattle.prepare.proofs.Checking.{accepted}
-use Rattle.compare.proofs.Entries.{blank, passes, row-count, Ready, rows-few, front-long, walked, outcome-of, stop-refused, stop-accepted}
+use Rattle.prepare.proofs.Matching.{row-count}
+use Rattle.compare.proofs.Entries.{blank, passes, Ready, rows-few, front-long, walked, outcome-of, stop-refused, stop-accepted}
 use borrow.Author.Needs.{needs}
 use Rattle.compare.proofs.stopped.Statement.{statement}
 use Rattle.compare.proofs.stopped.Tie as tie
@@ -12,10 +14,10 @@ use Rattle.compare.proofs.stopped.Tie as tie
 abbrev start : tie.After-check → tie.Start
 start h = h .before .before .before .before
 
-abbrev checking : tie.After-match-up → tie.After-check
+abbrev checking : tie.After-match-up-strand → tie.After-check
 checking m = m .before .before .before .before .before
 
-abbrev making : tie.After-places → tie.After-match-up
+abbrev making : tie.After-places → tie.After-match-up-strand
 making p = p .before .before .before .before
 
 abbrev entry : tie.After-places → tie.Start
@@ -23,13 +25,13 @@ entry p = start (checking (making p))
 
 -- where the rows are counted, the job is ready
 ready : (p : tie.After-places)
-    → Ready (entry p .args .settings) (entry p .args .first .now) (entry p .args .second .now) (making p .match-up .last .1 .1 .1 .0) (making p .match-up .last .1 .1 .1 .1 .0) (p .places .result)
+    → Ready (entry p .args .settings) (entry p .args .first .now) (entry p .args .second .now) (onStrand (entry p .args .settings .strand) (entry p .args .second .now)) (making p .match-up-strand .last .1 .1 .1 .0) (making p .match-up-strand .last .1 .1 .1 .1 .0) (p .places .result)
 ready p =
     let m = making p in
     let a = entry p .args in
     record {
       passed = passes (a .settings) (a .first .now) (a .second .now) (checking m .check .ensures) (m .before .before .before .if1 .left);
-      walks = m .match-up .ensures;
+      walks = m .match-up-strand .ensures;
       rows-are = row-count (a .settings) (a .first .now) (p .places .ensures) (p .before .wide .ensures .0);
     }
 
@@ -44,14 +46,14 @@ returns c =
     let o = outcome-of e ∙ stop-refused (a .settings) (a .first .now) (a .second .now) (a .work .now) (a .row) (λ z. c .if1 .taken (ap (λ (x : Answer). x .number) e ∙ z)) in
     (ap (λ (x : Outcome). x .answer) o, ap (λ (x : Outcome). x .work) o)
 
-slice-aggregate-match-up : tie.Need-slice-aggregate-match-up
-slice-aggregate-match-up c = search needs
+slice-aggregate-match-up-strand : tie.Need-slice-aggregate-match-up-strand
+slice-aggregate-match-up-strand c = search needs
 
-slice-aggregate-match-up-2 : tie.Need-slice-aggregate-match-up-2
-slice-aggregate-match-up-2 c = search needs
+slice-aggregate-match-up-strand-2 : tie.Need-slice-aggregate-match-up-strand-2
+slice-aggregate-match-up-strand-2 c = search needs
 
-match-up-requires : tie.Need-match-up-requires
-match-up-requires c κs =
+match-up-strand-requires : tie.Need-match-up-strand-requires
+match-up-strand-requires c κs =
     let accepts = c .before .before in
     let h = accepts .before .before in
     let a = start h .args in
@@ -97,9 +99,9 @@ stopped-spec =
     (tie.spec
     check-requires
     returns
-    slice-aggregate-match-up
-    slice-aggregate-match-up-2
-    match-up-requires
+    slice-aggregate-match-up-strand
+    slice-aggregate-match-up-strand-2
+    match-up-strand-requires
     wide-requires
     places-requires
     array-share-prefix-firsts

@@ -16,7 +16,7 @@ read-kind-requires c κs = search needs
 
 returns : tie.Need-returns
 unfolding noDone
-returns c = done-refused _ _ (c .before .before .read-kind .ensures .0) (c .if1 .taken)
+returns c = done-refused _ (c .before .before .read-kind .ensures .0) (c .if1 .taken)
 
 slice-aggregate-number-at : tie.Need-slice-aggregate-number-at
 slice-aggregate-number-at c = search needs
@@ -51,7 +51,7 @@ returns-2 c =
     let e = n1 .before .before in
     let k = e .before .before in
     let z = sym (k .read-kind .ensures .0) ∙ e .if1 .left in
-    done-good _ _ _ _ _ z
+    done-good _ z
     (number-read 17 20 _ (replicate 67 0) _ 2 4 _ (omega arith) (k .read-kind .ensures .1) z (omega arith) (n1 .number-at .ensures .0))
     (number-read 17 20 _ (replicate 67 0) _ 6 4 _ (omega arith) (k .read-kind .ensures .1) z (omega arith) (n2 .number-at2 .ensures .0))
     (number-read 17 20 _ (replicate 67 0) _ 10 4 _ (omega arith) (k .read-kind .ensures .1) z (omega arith) (n3 .number-at3 .ensures .0))

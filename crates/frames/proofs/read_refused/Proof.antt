@@ -16,7 +16,7 @@ read-kind-requires c κs = search needs
 
 returns : tie.Need-returns
 unfolding noRefused
-returns c = refused-refused _ _ (c .before .before .read-kind .ensures .0) (c .if1 .taken)
+returns c = refused-refused _ (c .before .before .read-kind .ensures .0) (c .if1 .taken)
 
 slice-aggregate-number-at : tie.Need-slice-aggregate-number-at
 slice-aggregate-number-at c = search needs
@@ -44,7 +44,7 @@ returns-2 c =
     let e = n1 .before .before in
     let k = e .before .before in
     let z = sym (k .read-kind .ensures .0) ∙ e .if1 .left in
-    refused-good _ _ _ _ z
+    refused-good _ z
     (number-read 31 6 _ (replicate 67 0) _ 2 1 _ (omega arith) (k .read-kind .ensures .1) z (omega arith) (n1 .number-at .ensures .0))
     (number-read 31 6 _ (replicate 67 0) _ 3 1 _ (omega arith) (k .read-kind .ensures .1) z (omega arith) (n2 .number-at2 .ensures .0))
     (number-read 31 6 _ (replicate 67 0) _ 4 4 _ (omega arith) (k .read-kind .ensures .1) z (omega arith) (n3 .number-at3 .ensures .0))

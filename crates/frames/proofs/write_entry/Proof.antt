@@ -1,46 +1,20 @@
--- The line is that of the payload, which is never too long for one. Assumes nothing.
-use Prim.Native.Nat.{_≤_}
-use native.Mathlib.Omega.{arith}
-use lib.ListN.{length}
-use Rattle.payloads.specs.Numbers.{numberBytes}
-use Rattle.frames.specs.Kinds.{entryPayload, entryLine}
-use Rattle.frames.proofs.Writers.{short-payload}
+-- The kind is the strand's. Assumes nothing.
+use Rattle.frames.specs.Kinds.{entryLine}
 use borrow.Author.Needs.{needs}
 use Rattle.frames.proofs.write_entry.Statement.{statement}
 use Rattle.frames.proofs.write_entry.Tie as tie
 
-entry-payload-requires : tie.Need-entry-payload-requires
-entry-payload-requires c κs = search needs
-
-entry-fits-requires : tie.Need-entry-fits-requires
-entry-fits-requires c κs = search needs
-
-slice-aggregate-write-fitting : tie.Need-slice-aggregate-write-fitting
-slice-aggregate-write-fitting c = search needs
-
-write-fitting-requires : tie.Need-write-fitting-requires
-write-fitting-requires c κs = search needs
+write-entry-of-requires : tie.Need-write-entry-of-requires
+write-entry-of-requires c κs = search needs
 
 same-length : tie.Need-same-length
 same-length c = search needs
 
 returns : tie.Need-returns
-unfolding entryLine entryPayload numberBytes
+unfolding entryLine
 returns c =
     let w = c .before .before in
-    let f = w .before .before .before in
-    let p = f .before in
-    let a = p .before .before .args in
-    let s : length (entryPayload (a .entry)) ≤ 64 = omega arith in
-    short-payload 16 (entryPayload (a .entry)) _ (a .out .now) _ _ _ _ (f .entry-fits .ensures) (p .entry-payload .ensures) s (w .write-fitting .ensures .0) (w .write-fitting .ensures .1)
+    (w .write-entry-of .ensures .0, w .write-entry-of .ensures .1)
 
 pub write-entry-spec : {M : Type 1} → statement M
-write-entry-spec =
-    tie.close
-    (tie.spec
-    entry-payload-requires
-    entry-fits-requires
-    slice-aggregate-write-fitting
-    write-fitting-requires
-    same-length
-    returns)
+write-entry-spec = tie.close (tie.spec write-entry-of-requires same-length returns)

@@ -1,4 +1,4 @@
--- All four are 0. Assumes nothing.
+-- All five are 0. Assumes nothing.
 use mathlib.Core.Path.{refl}
 use Rattle.input.specs.Grammar.{noSettings}
 use Rattle.input.proofs.no_settings.Statement.{statement}

@@ -1,6 +1,5 @@
 -- `jobs::compare_matches` meets its contract: each return is a line of the table. Assumes nothing.
 use native.Mathlib.Omega.{arith}
-use lib.ListN.{length}
 use Rattle.rules.specs.Rooms.{workHolds, listHolds}
 use Rattle.jobs.proofs.Outcomes.{compare-7, compare-8, compare-0}
 use borrow.Author.Needs.{needs}
@@ -8,20 +7,20 @@ use Rattle.jobs.proofs.compare_matches.Statement.{statement}
 use Rattle.jobs.proofs.compare_matches.Tie as tie
 
 -- the places that are spoken of, from where every entry found its room: the matches listed, and the start
-abbrev listed : tie.Else2 → tie.After-list-matches
+abbrev listed : tie.Else2 → tie.After-list-strands
 listed t = t .before .before .before .before .before .before .before .before .before .before .before
 
-abbrev counted : tie.After-list-matches → tie.After-count-matches
+abbrev counted : tie.After-list-strands → tie.After-count-strands
 counted m = m .before .before .before .before .before .before
 
-abbrev start : tie.After-count-matches → tie.Start
-start n = n .before .before .before .before .before .before
+abbrev start : tie.After-count-strands → tie.Start
+start n = n .before .before .before .before .before .before .before .before
 
 wide-requires : tie.Need-wide-requires
 wide-requires c κs = search needs
 
-count-matches-requires : tie.Need-count-matches-requires
-count-matches-requires c κs = c .before .before .before .before .before .pre .walks
+count-strands-requires : tie.Need-count-strands-requires
+count-strands-requires c κs = let s = c .before .before .before .before .before .before .before in (s .pre .0 .walks, s .pre .1 .0 .walks)
 
 record-count-requires : tie.Need-record-count-requires
 record-count-requires c κs = search needs
@@ -48,15 +47,17 @@ returns c =
     let q = x .before .before in
     let n = q .before .before .before in
     let w = n .before in
-    compare-7 (w .wide .ensures .0) (n .count-matches .ensures) (omega (arith, q .before .record-count .ensures, q .if1 .taken)) (c .refuse .ensures) (x .zero-all .ensures) (y .zero-all2 .ensures)
+    compare-7 (w .wide .ensures .0) (n .count-strands .ensures) (omega (arith, q .before .record-count .ensures, q .if1 .taken)) (c .refuse .ensures) (x .zero-all .ensures) (y .zero-all2 .ensures)
 
-list-matches-requires : tie.Need-list-matches-requires
+list-strands-requires : tie.Need-list-strands-requires
 unfolding workHolds
-list-matches-requires c κs =
+list-strands-requires c κs =
     let q = c .before .before in
     let n = q .before .before .before in
     let s = start n in
-    (s .pre, (omega (arith, q .before .record-count .ensures, q .if1 .left), omega (arith, n .count-matches .ensures .few, n .count-matches .ensures .narrow, s .pre .walks .few-rows)))
+    let f = n .count-strands .ensures .few in
+    let w = n .count-strands .ensures .narrow in
+    (s .pre .0, (s .pre .1 .0, (omega (arith, q .before .record-count .ensures, q .if1 .left), (omega arith, s .pre .1 .1))))
 
 zero-all-requires-3 : tie.Need-zero-all-requires-3
 zero-all-requires-3 c κs = search needs
@@ -85,7 +86,7 @@ returns-2 c =
     let q = m .before .before .before in
     let n = q .before .before .before in
     let w = n .before in
-    compare-8 (w .wide .ensures .0) (n .count-matches .ensures) (m .list-matches .last .1 .1 .1 .1 .0) (omega (arith, q .before .record-count .ensures, q .if1 .left)) (m .list-matches .kept .1 .1 .1 .1 .0) (m .list-matches .kept .1 .1 .1 .1 .1 .0) (m .list-matches .ensures) (omega (arith, t .before .entry-count .ensures, t .if2 .taken)) (c .refuse2 .ensures) (x .zero-all3 .ensures) (y .zero-all4 .ensures)
+    compare-8 (w .wide .ensures .0) (n .count-strands .ensures) (m .list-strands .last .1 .1 .1 .1 .1 .1 .1 .0) (omega (arith, q .before .record-count .ensures, q .if1 .left)) (m .list-strands .kept .1 .1 .1 .1 .1 .1 .1 .0) (m .list-strands .kept .1 .1 .1 .1 .1 .1 .1 .1 .0) (m .list-strands .ensures) (omega (arith, t .before .entry-count .ensures, t .if2 .taken)) (c .refuse2 .ensures) (x .zero-all3 .ensures) (y .zero-all4 .ensures)
 
 zero-after-entries-requires : tie.Need-zero-after-entries-requires
 unfolding listHolds
@@ -93,10 +94,10 @@ zero-after-entries-requires c κs =
     let t = c .before in
     let m = listed t in
     let s = start (counted m) in
-    omega (arith, t .before .entry-count .ensures, t .if2 .left, m .list-matches .kept .1 .1 .1 .1 .1 .0, s .good .1 .1 .1 .1 .0)
+    omega (arith, t .before .entry-count .ensures, t .if2 .left, m .list-strands .kept .1 .1 .1 .1 .1 .1 .1 .1 .0, s .good .1 .1 .1 .1 .1 .1 .1 .0)
 
-count-links-requires : tie.Need-count-links-requires
-count-links-requires c κs = start (counted (listed (c .before .before .before .before))) .pre .walks
+link-strands-requires : tie.Need-link-strands-requires
+link-strands-requires c κs = let s = start (counted (listed (c .before .before .before .before))) in (s .pre .0 .walks, s .pre .1 .0 .walks)
 
 done-requires : tie.Need-done-requires
 done-requires c κs = search needs
@@ -117,14 +118,14 @@ returns-3 c =
     let q = m .before .before .before in
     let n = q .before .before .before in
     let w = n .before in
-    compare-0 (w .wide .ensures .0) (n .count-matches .ensures) (m .list-matches .last .1 .1 .1 .1 .0) (omega (arith, q .before .record-count .ensures, q .if1 .left)) (m .list-matches .kept .1 .1 .1 .1 .0) (m .list-matches .kept .1 .1 .1 .1 .1 .0) (m .list-matches .ensures) (omega (arith, t .before .entry-count .ensures, t .if2 .left)) (l .count-links .ensures) (c .done .ensures) (x .zero-all3 .ensures) (y .zero-after-entries .ensures)
+    compare-0 (w .wide .ensures .0) (n .count-strands .ensures) (m .list-strands .last .1 .1 .1 .1 .1 .1 .1 .0) (omega (arith, q .before .record-count .ensures, q .if1 .left)) (m .list-strands .kept .1 .1 .1 .1 .1 .1 .1 .0) (m .list-strands .kept .1 .1 .1 .1 .1 .1 .1 .1 .0) (m .list-strands .ensures) (omega (arith, t .before .entry-count .ensures, t .if2 .left)) (l .link-strands .ensures) (c .done .ensures) (x .zero-all3 .ensures) (y .zero-after-entries .ensures)
 
 pub compare-matches-spec : {M : Type 1} → statement M
 compare-matches-spec =
     tie.close
     (tie.spec
     wide-requires
-    count-matches-requires
+    count-strands-requires
     record-count-requires
     zero-all-requires
     zero-all-requires-2
@@ -132,7 +133,7 @@ compare-matches-spec =
     same-length
     same-length-2
     returns
-    list-matches-requires
+    list-strands-requires
     zero-all-requires-3
     entry-count-requires
     zero-all-requires-4
@@ -141,7 +142,7 @@ compare-matches-spec =
     same-length-4
     returns-2
     zero-after-entries-requires
-    count-links-requires
+    link-strands-requires
     done-requires
     same-length-5
     same-length-6

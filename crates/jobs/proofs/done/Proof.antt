@@ -1,6 +1,6 @@
 -- `jobs::done` meets its contract: it is the definition. Assumes nothing.
 use mathlib.Core.Path.{refl}
-use Rattle.jobs.specs.Jobs.{doneWith}
+use Rattle.rules.specs.Answers.{done as doneWith}
 use Rattle.jobs.proofs.done.Statement.{statement}
 use Rattle.jobs.proofs.done.Tie as tie
 

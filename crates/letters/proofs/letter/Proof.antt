@@ -2,7 +2,7 @@
 use borrow.Author.Needs.{needs}
 use mathlib.Core.Path.{refl, sym}
 use Rattle.rules.specs.Letters.{letterOf}
-use Rattle.letters.proofs.Inverse.{no-letter}
+use Rattle.rules.proofs.Letters.{no-letter}
 use Rattle.letters.proofs.letter.Statement.{statement}
 use Rattle.letters.proofs.letter.Tie as tie
 

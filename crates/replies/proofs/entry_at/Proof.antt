@@ -1,4 +1,5 @@
 -- `replies::entry_at` meets its contract: each number is read from its place. Assumes nothing.
+use Rattle.replies.specs.Output.{entryOf}
 use Rattle.replies.specs.Entries.{entryIn}
 use borrow.Author.Needs.{needs}
 use Rattle.replies.proofs.entry_at.Statement.{statement}
@@ -65,7 +66,7 @@ long-requires-5 : tie.Need-long-requires-5
 long-requires-5 c κs = search needs
 
 returns : tie.Need-returns
-unfolding entryIn
+unfolding entryOf entryIn
 returns c = rw (c .before .before .before .before .before .before .before .before .long .ensures .0, c .before .before .before .before .before .before .long2 .ensures .0, c .before .before .before .before .long3 .ensures .0, c .before .before .long4 .ensures .0, c .long5 .ensures .0)
 
 pub entry-at-spec : {M : Type 1} → statement M

@@ -15,30 +15,26 @@ abbrev μ-loop : tie.MeasureT-loop
 loop-holds : tie.Need-loop-holds Inv-loop μ-loop
 loop-holds c = writing-start
 
-entry-at-requires : tie.Need-entry-at-requires Inv-loop μ-loop
-entry-at-requires c κs = search needs
+sub-put-entry : tie.Need-sub-put-entry Inv-loop μ-loop
+sub-put-entry c = search needs
 
-sub-write-entry : tie.Need-sub-write-entry Inv-loop μ-loop
-sub-write-entry c = search needs
+part-put-entry-start : tie.Need-part-put-entry-start Inv-loop μ-loop
+part-put-entry-start c = search needs
 
-part-write-entry-start : tie.Need-part-write-entry-start Inv-loop μ-loop
-part-write-entry-start c = search needs
+part-put-entry-end : tie.Need-part-put-entry-end Inv-loop μ-loop
+part-put-entry-end c = search needs
 
-part-write-entry-end : tie.Need-part-write-entry-end Inv-loop μ-loop
-part-write-entry-end c = search needs
-
-write-entry-requires : tie.Need-write-entry-requires Inv-loop μ-loop
-write-entry-requires c κs = search needs
+put-entry-requires : tie.Need-put-entry-requires Inv-loop μ-loop
+put-entry-requires c κs = search needs
 
 add-at : tie.Need-add-at Inv-loop μ-loop
 add-at c =
     let written = c .before .before .before in
-    let read = written .before .before in
-    let n = read .before in
+    let n = written .before .before in
     let l = n .before in
     let s = l .before .before .before in
-    let w = written .write-entry in
-    omega (arith, writing-length (s .pre) (l .loop .inv) (n .loop-test .taken) (read .entry-at .ensures) (w .ensures .0) (w .ensures .1), s .pre .few, l .loop .inv .place)
+    let w = written .put-entry in
+    omega (arith, writing-length (s .pre) (l .loop .inv) (n .loop-test .taken) (w .ensures .0) (w .ensures .1), s .pre .few, l .loop .inv .place)
 
 add-n : tie.Need-add-n Inv-loop μ-loop
 add-n c = search needs
@@ -49,12 +45,11 @@ loop-less c = search needs
 loop-again : tie.Need-loop-again Inv-loop μ-loop
 loop-again c =
     let written = c .before .before .before in
-    let read = written .before .before in
-    let n = read .before in
+    let n = written .before .before in
     let l = n .before in
     let s = l .before .before .before in
-    let w = written .write-entry in
-    writing-next (s .pre) (l .loop .inv) (n .loop-test .taken) (read .entry-at .ensures) (w .ensures .0) (w .ensures .1)
+    let w = written .put-entry in
+    writing-next (s .pre) (l .loop .inv) (n .loop-test .taken) (w .ensures .0) (w .ensures .1)
 
 same-length : tie.Need-same-length Inv-loop μ-loop
 same-length c = search needs
@@ -72,11 +67,10 @@ put-entries-spec =
     Inv-loop
     μ-loop
     loop-holds
-    entry-at-requires
-    sub-write-entry
-    part-write-entry-start
-    part-write-entry-end
-    write-entry-requires
+    sub-put-entry
+    part-put-entry-start
+    part-put-entry-end
+    put-entry-requires
     add-at
     add-n
     loop-less

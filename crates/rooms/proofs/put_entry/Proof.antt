@@ -1,4 +1,4 @@
--- `rooms::put_entry` meets its contract: five stores, one after the other, from the entry's first number. Assumes nothing.
+-- `rooms::put_entry` meets its contract: six stores, one after the other, from the entry's first number. Assumes nothing.
 use native.Mathlib.Omega.{arith}
 use native.Mathlib.Numerals.{towards-suc}
 use lib.ListN.{length-set}
@@ -61,6 +61,15 @@ mul-list-5 c = search needs
 slice-write-list-5 : tie.Need-slice-write-list-5
 slice-write-list-5 c = simp length-set (omega arith)
 
+add-list-5 : tie.Need-add-list-5
+add-list-5 c = search needs
+
+mul-list-6 : tie.Need-mul-list-6
+mul-list-6 c = search needs
+
+slice-write-list-6 : tie.Need-slice-write-list-6
+slice-write-list-6 c = simp length-set (omega arith)
+
 same-length : tie.Need-same-length
 same-length c = simp length-set
 
@@ -90,5 +99,8 @@ put-entry-spec =
     add-list-4
     mul-list-5
     slice-write-list-5
+    add-list-5
+    mul-list-6
+    slice-write-list-6
     same-length
     returns)

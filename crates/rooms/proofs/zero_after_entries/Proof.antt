@@ -9,7 +9,7 @@ mul-from : tie.Need-mul-from
 mul-from c = search needs
 
 returns : tie.Need-returns
-returns c = let a = c .before .before .args in none-after (a .list .now) (5 * a .n) (c .if1 .taken)
+returns c = let a = c .before .before .args in none-after (a .list .now) (6 * a .n) (c .if1 .taken)
 
 zero-from-requires : tie.Need-zero-from-requires
 zero-from-requires c κs = search needs

@@ -2,6 +2,7 @@
 
 use crate::compare::{Comparison, Report};
 use crate::files::Record;
+use crate::words;
 use hornbeamlet::{Answer, Entry, Refusal, Settings};
 
 /// The whole output.
@@ -21,6 +22,7 @@ fn settings(settings: Settings) -> String {
         ("b", settings.b.to_string()),
         ("a", settings.a.to_string()),
         ("m", settings.m.to_string()),
+        ("strand", string(words::strand_setting(settings.strand))),
     ])
 }
 
@@ -77,6 +79,7 @@ fn clause((number, entry): (usize, &Entry)) -> String {
         ("second_start", entry.second_start.to_string()),
         ("second_end", entry.second_end.to_string()),
         ("weight", entry.weight.to_string()),
+        ("strand", string(words::strand(entry.strand))),
     ])
 }
 

@@ -39,8 +39,8 @@ impl Calls for Proved<'_> {
 }
 
 fn to_library(settings: Settings) -> hornbeamlet::Settings {
-    let Settings { k, b, a, m } = settings;
-    hornbeamlet::Settings { k, b, a, m }
+    let Settings { k, b, a, m, strand } = settings;
+    hornbeamlet::Settings { k, b, a, m, strand }
 }
 
 fn from_library(answer: hornbeamlet::Answer) -> Answer {

@@ -1,6 +1,7 @@
 //! Random jobs of many kinds, each the same for the same seed.
 
 use reference::kmers::{count, matches};
+use reference::letters::reverse_complement;
 use reference::random::Random;
 use reference::Settings;
 use std::sync::OnceLock;
@@ -12,7 +13,7 @@ const NO_LETTERS: &[u8] = b"acgtnuUEFIJLOPQXZ@[` -*.0\n\r\t\0\x7f\x80\xc1\xff";
 
 /// Settings and two sequences.
 pub struct Job {
-    /// The four settings.
+    /// The settings.
     pub settings: Settings,
     /// The first sequence.
     pub first: Vec<u8>,
@@ -35,6 +36,7 @@ pub fn small(random: &mut Random) -> Job {
     if random.chance(5) {
         lengthen(random, &mut job);
     }
+    turn(random, &mut job);
     if random.chance(70) {
         damage(random, &mut job);
     }
@@ -57,10 +59,11 @@ pub fn long(random: &mut Random) -> Job {
     if random.chance(100) {
         share_a_hash(random, &mut job, 64, 1_100);
     }
+    turn(random, &mut job);
+    lighten(&mut job);
     if random.chance(30) {
         damage(random, &mut job);
     }
-    lighten(&mut job);
     job
 }
 
@@ -69,7 +72,7 @@ fn pair(random: &mut Random, longest: usize) -> (Vec<u8>, Vec<u8>) {
     match random.below(10) {
         0 | 1 => unrelated(random, longest),
         2 | 3 => repeats(random, longest),
-        4 => turned(random, longest),
+        4 => rearranged(random, longest),
         5 => {
             let (first, second) = related(random, longest);
             (with_iupac(random, first), with_iupac(random, second))
@@ -108,7 +111,7 @@ fn repeats(random: &mut Random, longest: usize) -> (Vec<u8>, Vec<u8>) {
 
 /// Blocks of the one in the reverse order in the other: chains break, and most
 /// matches have nothing to their upper left.
-fn turned(random: &mut Random, longest: usize) -> (Vec<u8>, Vec<u8>) {
+fn rearranged(random: &mut Random, longest: usize) -> (Vec<u8>, Vec<u8>) {
     let first = random.letters(BASES, longest);
     let block = random.between(1, 1 + longest / 3);
     let second = first.chunks(block).rev().flatten().copied().collect();
@@ -139,6 +142,22 @@ fn with_iupac(random: &mut Random, mut sequence: Vec<u8>) -> Vec<u8> {
         }
     }
     sequence
+}
+
+/// Half of the second sequences are turned round, and a fifth in part: what they
+/// share with the first is found on the reverse strand, or on both.
+fn turn(random: &mut Random, job: &mut Job) {
+    let last = job.second.len();
+    let from = random.between(0, last);
+    let part = from..random.between(from, last);
+    match random.below(10) {
+        0 | 1 => {
+            let turned = reverse_complement(&job.second[part.clone()]);
+            job.second.splice(part, turned);
+        }
+        2..=6 => job.second = reverse_complement(&job.second),
+        _ => {}
+    }
 }
 
 /// One sequence as long as is accepted or a little longer, or both.
@@ -182,6 +201,7 @@ fn small_settings(random: &mut Random) -> Settings {
         b: random.one_of(&[1, near, near, far, 1_024]),
         a: random.one_of(&[1, 2, few, many, many, 1_024]),
         m: random.one_of(&[0, 0, span, span, 16_384]),
+        strand: random.one_of(&[0, 1, 1]),
     }
 }
 
@@ -195,28 +215,33 @@ fn long_settings(random: &mut Random) -> Settings {
         b: random.one_of(&[near, far, 300, 1_024]),
         a: random.one_of(&[2, few, few, 200, 1_024]),
         m: random.one_of(&[0, span, 100]),
+        strand: random.one_of(&[0, 1, 1]),
     }
 }
 
 /// One setting or more outside the table, just so or by far.
 fn spoil(random: &mut Random, settings: &mut Settings) {
     for _ in 0..random.between(1, 2) {
-        match random.below(4) {
+        match random.below(5) {
             0 => settings.k = random.one_of(&[0, 32, 33, 64, u32::MAX]),
             1 => settings.b = random.one_of(&[0, 1_025, u32::MAX]),
             2 => settings.a = random.one_of(&[0, 1_025, u32::MAX]),
-            _ => settings.m = random.one_of(&[16_385, u32::MAX]),
+            3 => settings.m = random.one_of(&[16_385, u32::MAX]),
+            _ => settings.strand = random.one_of(&[2, 3, 256, 257, u32::MAX]),
         }
     }
 }
 
-/// Lowers b and then a until the reference's walk over rows stays short.
+/// Lowers a and then b until the reference's walk over rows stays short on both
+/// strands.
 fn lighten(job: &mut Job) {
     const MOST_MATCHES: u64 = 100_000;
     const MOST_STEPS: u64 = 5_000_000;
     let Settings { k, a, .. } = job.settings;
     let mut a = a;
-    let found = |a: u32| count(&matches(k as usize, a as usize, &job.first, &job.second));
+    let turned = reverse_complement(&job.second);
+    let on = |a: u32, second: &[u8]| count(&matches(k as usize, a as usize, &job.first, second));
+    let found = |a: u32| on(a, &job.second) + on(a, &turned);
     while found(a) > MOST_MATCHES {
         a /= 2;
     }
@@ -229,9 +254,9 @@ fn lighten(job: &mut Job) {
 const SHARING: u32 = 13;
 
 /// Sequences of k-mers that the library's table puts into one list, each k-mer
-/// followed by an N. With more than 64 of them in the second sequence the
-/// library gives up its table and sorts instead, which no random sequence
-/// makes it do.
+/// followed by an N. With more than 64 of them in the second sequence, as it
+/// stands or turned round, the library gives up its table and sorts instead,
+/// which no random sequence makes it do.
 fn share_a_hash(random: &mut Random, job: &mut Job, least: usize, most: usize) {
     let mut kmers = sharing_kmers()[..random.between(least, most)].to_vec();
     job.settings.k = SHARING;

@@ -1,0 +1,4 @@
+pub mod Needs
+pub mod Tallies
+pub mod Entering
+pub mod Unique

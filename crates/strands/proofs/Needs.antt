@@ -1,0 +1,34 @@
+-- Where W is 0 there is no match, since a match is in the run of its own row. Assumes nothing.
+use mathlib.Core.Path.{_≡_, refl, subst}
+use mathlib.Core.Bool.{Bool}
+use mathlib.Core.List.{List, [], _∷_, List·Memᴰ, List·Memᴰ·head, List·Memᴰ·tail}
+use Prim.Native.Nat.{ℕ, _+_, _≤_}
+use native.Mathlib.Omega.{arith}
+use lib.Dec.{T}
+use Rattle.rules.specs.declared.Cell.{Cell}
+use Rattle.rules.specs.Lists.{count}
+use Rattle.rules.specs.Matches.{matchesTo}
+use Rattle.rules.specs.Rooms.{inRun, largestRun}
+use Rattle.rules.proofs.Tests.{tests, by-test}
+use Rattle.rules.proofs.ListLaws.{largestTo-ge}
+use Rattle.rules.proofs.MatchList.{matches-in}
+
+count-some : {A : Type 0} (f : A → Bool) (xs : List A) (x : A) → List·Memᴰ x xs → T (f x) → 1 ≤ count f xs
+unfolding count
+count-some {A} f xs x (List·Memᴰ·head {x = y} {xs = ys} e) t =
+    by-test (λ (n : ℕ). 1 ≤ count f ys + n) (f y) 1 0 (λ _. omega arith) (λ k. absurd (k (subst (λ (z : A). T (f z)) e t)))
+count-some f xs x (List·Memᴰ·tail {x = y} {xs = ys} m) t = let h = count-some f ys x m t in omega arith
+
+empty : {A : Type 0} (xs : List A) → ((x : A) → List·Memᴰ x xs → ⊥) → xs ≡ []
+empty [] h = refl
+empty (x ∷ xs) h = absurd (h x (List·Memᴰ·head refl))
+
+pub none-needed : (b : ℕ) (hit : Cell → Bool) (columns rows : ℕ) → largestRun b (matchesTo hit columns rows) rows ≡ 0 → matchesTo hit columns rows ≡ []
+unfolding largestRun inRun
+none-needed b hit columns rows e = empty (matchesTo hit columns rows) (λ y m. none y m (matches-in hit columns rows y m .row-from) (matches-in hit columns rows y m .row-to))
+  where
+    none : (y : Cell) → List·Memᴰ y (matchesTo hit columns rows) → 1 ≤ y .row → y .row ≤ rows → ⊥
+    none y m h g =
+        let k = count-some (inRun b (y .row)) (matchesTo hit columns rows) y m (simp (inRun, tests) (omega arith, omega arith)) in
+        let l = largestTo-ge (λ i. count (inRun b i) (matchesTo hit columns rows)) rows (y .row) h g in
+        omega arith

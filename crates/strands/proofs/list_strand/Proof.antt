@@ -1,0 +1,31 @@
+-- `strands::list_strand` meets its contract: without slots there is nothing to list, and else the sweep lists all. Assumes nothing.
+use Rattle.strands.proofs.Entering.{sweep-safe, lists-none, lists-swept}
+use borrow.Author.Needs.{needs}
+use Rattle.strands.proofs.list_strand.Statement.{statement}
+use Rattle.strands.proofs.list_strand.Tie as tie
+
+returns : tie.Need-returns
+returns c = lists-none (c .if1 .taken)
+
+list-all-requires : tie.Need-list-all-requires
+list-all-requires c κs =
+    let e = c .before .before in
+    let s = e .before .before .before .before .before in
+    let a = s .args in
+    sweep-safe (a .firsts .now) (a .nexts .now) (a .work .now) (a .c) (a .slots) (s .pre .0) (s .pre .1 .0) (s .pre .1 .1) (e .if1 .left)
+
+same-length : tie.Need-same-length
+same-length c = search needs
+
+same-length-2 : tie.Need-same-length-2
+same-length-2 c = search needs
+
+returns-2 : tie.Need-returns-2
+returns-2 c =
+    let d = c .before .before .before .before in
+    let s = d .before .before .before .before .before .before .before .before in
+    lists-swept (s .pre .0) (d .list-all .ensures)
+
+pub list-strand-spec : {M : Type 1} → statement M
+list-strand-spec =
+    tie.close (tie.spec returns list-all-requires same-length same-length-2 returns-2)
