@@ -36,6 +36,7 @@ unfolding ends turned
 reverseNumbers letters k x =
     x .start .row ∷ ends k (x .cell) .row ∷ turned letters (ends k (x .cell) .column) ∷ turned letters (x .start .column) ∷ x .weight ∷ 1 ∷ []
 
+-- an entry's numbers on a strand
 unfoldable pub strandNumbers : ℕ → ℕ → ℕ → Record → List ℕ
 unfolding entryNumbers reverseNumbers
 strandNumbers zero letters k x = entryNumbers k x

@@ -21,7 +21,7 @@ use Rattle.rooms.proofs.Turning.{reverse-size, turned-all}
 use Rattle.rooms.proofs.Rests.{rest-is, rest-back}
 use Rattle.listing.specs.Leaving.{ListedTo}
 use Rattle.sweep.specs.Sweeping.{SweepSafe, ListsAll}
-use Rattle.strands.specs.Strands.{listingOf, entriesOf, largerOf, Walked, Entered, ListsOne, ListsTurned, ListsBoth}
+use Rattle.strands.specs.Strands.{listingOf, entriesOf, largerOf, Walked, Entered, ListsAs, ListsBoth}
 use Rattle.strands.proofs.Needs.{none-needed}
 
 -- ---- one strand
@@ -39,7 +39,7 @@ sweep-safe firsts nexts work c slots w h s n =
     }
 
 -- without slots there is nothing to list
-pub lists-none : {firsts nexts list : List ℕ} {c : Settings} {slots : ℕ} → slots ≡ 0 → ListsOne firsts nexts slots c list 0
+pub lists-none : {firsts nexts list : List ℕ} {c : Settings} {slots : ℕ} → slots ≡ 0 → ListsAs (entryNumbers (c .k)) firsts nexts slots c list 0
 unfolding listingOf keep laid recordsFrom
 lists-none {firsts} {nexts} {list} {c} {slots} z =
     record {
@@ -58,7 +58,7 @@ entered-as {c} {cells} v =
       entries = λ h. v .entries h ∙ sym (laid-map (entryNumbers (c .k)) (λ entry. entry) (listingOf c cells));
     }
 
-pub lists-swept : {firsts nexts list : List ℕ} {c : Settings} {slots n : ℕ} → Walked firsts nexts c → ListsAll firsts nexts (record { size = slots; origin = 0 }) c list n → ListsOne firsts nexts slots c list n
+pub lists-swept : {firsts nexts list : List ℕ} {c : Settings} {slots n : ℕ} → Walked firsts nexts c → ListsAll firsts nexts (record { size = slots; origin = 0 }) c list n → ListsAs (entryNumbers (c .k)) firsts nexts slots c list n
 lists-swept {firsts} {nexts} {list} {c} {slots} {n} s a =
     record {
       few = (let f = a .few in let r = s .walks .few-rows in omega arith);
@@ -70,8 +70,8 @@ lists-swept {firsts} {nexts} {list} {c} {slots} {n} s a =
 
 -- ---- turned back
 
-module _ {firsts nexts list : List ℕ} {c : Settings} {slots n : ℕ} (letters : ℕ) (a : ListsOne firsts nexts slots c list n) where
-  pub lists-short : listHolds list < n → ListsTurned firsts nexts slots c letters list n
+module _ {firsts nexts list : List ℕ} {c : Settings} {slots n : ℕ} (letters : ℕ) (a : ListsAs (entryNumbers (c .k)) firsts nexts slots c list n) where
+  pub lists-short : listHolds list < n → ListsAs (reverseNumbers letters (c .k)) firsts nexts slots c list n
   unfolding listHolds
   lists-short h =
       record {
@@ -82,7 +82,7 @@ module _ {firsts nexts list : List ℕ} {c : Settings} {slots n : ℕ} (letters 
             record { counted = v .counted ∙ sizes ∙ sym (length-map (listingOf c cells) (reverseNumbers letters (c .k))); entries = λ f. absurd (omega arith) };
       }
 
-  pub lists-turned : n ≤ listHolds list → {list′ : List ℕ} → list′ ≡ turnEntries letters list n → ListsTurned firsts nexts slots c letters list′ n
+  pub lists-turned : n ≤ listHolds list → {list′ : List ℕ} → list′ ≡ turnEntries letters list n → ListsAs (reverseNumbers letters (c .k)) firsts nexts slots c list′ n
   unfolding listHolds
   lists-turned h {list′} el =
       record { few = a .few; entered = λ cells w e. back (listingOf c cells) (a .entered cells w e) }
@@ -136,8 +136,8 @@ module _ (list rest : List ℕ) (at n : ℕ) (ea : at ≡ min (6 * n) (length li
           ∙ ap₂ (λ (x y : List ℕ). x ++ y) first (w .entries (omega (arith, rest-size)))
           ∙ sym (laid-append (λ (entry : List ℕ). entry) forward reverse)
 
-  pub lists-both : {m : ℕ} {firsts nexts reverse-firsts reverse-nexts : List ℕ} {slots letters : ℕ} {c : Settings} → ListsOne firsts nexts slots c list n
-      → ListsTurned reverse-firsts reverse-nexts slots c letters rest m → ListsBoth firsts nexts reverse-firsts reverse-nexts slots c letters whole (n + m)
+  pub lists-both : {m : ℕ} {firsts nexts reverse-firsts reverse-nexts : List ℕ} {slots letters : ℕ} {c : Settings} → ListsAs (entryNumbers (c .k)) firsts nexts slots c list n
+      → ListsAs (reverseNumbers letters (c .k)) reverse-firsts reverse-nexts slots c rest m → ListsBoth firsts nexts reverse-firsts reverse-nexts slots c letters whole (n + m)
   unfolding entriesOf largerOf strandNumbers
   lists-both a z =
       record {

@@ -11,9 +11,9 @@ use Rattle.rules.specs.declared.Record.{Record}
 use Rattle.rules.specs.Lists.{keep, laid}
 use Rattle.rules.specs.Matches.{matchesTo}
 use Rattle.rules.specs.Records.{recordsFrom}
-use Rattle.rules.specs.Listing.{isListed, entryNumbers}
+use Rattle.rules.specs.Listing.{isListed}
 use Rattle.rules.specs.Rooms.{largestRun, pairs}
-use Rattle.rules.specs.Strands.{reverseNumbers, strandNumbers}
+use Rattle.rules.specs.Strands.{strandNumbers}
 use Rattle.matches.specs.Walks.{WalkSafe, Described}
 use Rattle.tally.specs.declared.Counts.{Counts}
 
@@ -64,14 +64,10 @@ pub record Entered (all : List (List ℕ)) (list : List ℕ) (n : ℕ) : Type 0 
   pub counted : n ≡ length all
   pub entries : 6 * n ≤ length list → take (6 * n) list ≡ laid (λ entry. entry) all
 
--- one strand, with slots for its need
-pub record ListsOne (firsts nexts : List ℕ) (slots : ℕ) (c : Settings) (list′ : List ℕ) (n : ℕ) : Type 0 where
+-- one strand, with slots for its need and its entries in such numbers
+pub record ListsAs (numbers : Record → List ℕ) (firsts nexts : List ℕ) (slots : ℕ) (c : Settings) (list′ : List ℕ) (n : ℕ) : Type 0 where
   pub few : n ≤ 2 ^ 28
-  pub entered : (cells : List Cell) → WalkTo firsts nexts cells → largestRun (c .b) cells (length firsts) ≤ slots → Entered (map (entryNumbers (c .k)) (listingOf c cells)) list′ n
-
-pub record ListsTurned (firsts nexts : List ℕ) (slots : ℕ) (c : Settings) (letters : ℕ) (list′ : List ℕ) (n : ℕ) : Type 0 where
-  pub few : n ≤ 2 ^ 28
-  pub entered : (cells : List Cell) → WalkTo firsts nexts cells → largestRun (c .b) cells (length firsts) ≤ slots → Entered (map (reverseNumbers letters (c .k)) (listingOf c cells)) list′ n
+  pub entered : (cells : List Cell) → WalkTo firsts nexts cells → largestRun (c .b) cells (length firsts) ≤ slots → Entered (map numbers (listingOf c cells)) list′ n
 
 -- both strands, with slots for the larger need
 pub record ListsBoth (firsts nexts reverse-firsts reverse-nexts : List ℕ) (slots : ℕ) (c : Settings) (letters : ℕ) (list′ : List ℕ) (n : ℕ) : Type 0 where

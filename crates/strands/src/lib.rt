@@ -6,7 +6,9 @@ use tally::Counts;
 ghost use Prim.Native.Nat.{_*_, _^_, _≤_, _<_};
 ghost use lib.ListN.{length};
 ghost use Rattle.matches.specs.Walks.{WalkSafe};
-ghost use Rattle.strands.specs.Strands.{Walked, CountsBoth, LinksBoth, ListsOne, ListsTurned, ListsBoth};
+ghost use Rattle.rules.specs.Listing.{entryNumbers};
+ghost use Rattle.rules.specs.Strands.{reverseNumbers};
+ghost use Rattle.strands.specs.Strands.{Walked, CountsBoth, LinksBoth, ListsAs, ListsBoth};
 
 // The matches of both strands together, and the larger need.
 pub fn count_strands(
@@ -57,7 +59,7 @@ fn list_strand(
     requires { ⌜ Walked (now firsts) (now nexts) c ⌝ }
     requires { ⌜ 8 * slots ≤ length (now work) ⌝ }
     requires { ⌜ slots < 2 ^ 32 ⌝ }
-    ensures { λ r. ⌜ ListsOne (now (firsts .entry)) (now (nexts .entry)) slots c (now (list .exit)) r ⌝ }
+    ensures { λ r. ⌜ ListsAs (entryNumbers (c .k)) (now (firsts .entry)) (now (nexts .entry)) slots c (now (list .exit)) r ⌝ }
 {
     if slots == 0 {
         return 0;
@@ -83,7 +85,7 @@ fn list_turned(
     requires { ⌜ 8 * slots ≤ length (now work) ⌝ }
     requires { ⌜ slots < 2 ^ 32 ⌝ }
     requires { ⌜ letters ≤ 16384 ⌝ }
-    ensures { λ r. ⌜ ListsTurned (now (firsts .entry)) (now (nexts .entry)) slots c letters (now (list .exit)) r ⌝ }
+    ensures { λ r. ⌜ ListsAs (reverseNumbers letters (c .k)) (now (firsts .entry)) (now (nexts .entry)) slots c (now (list .exit)) r ⌝ }
 {
     let count = list_strand(firsts, nexts, slots, c, work, list);
     if count <= rooms::entry_count(list) {
