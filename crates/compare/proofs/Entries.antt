@@ -212,7 +212,6 @@ stopped-own c s t work row e = sym (after-accepted c s t work [] _ e)
 pub stop-accepted : {c : Settings} {s t firsts nexts : List ℕ} {rows : ℕ} → Ready c s t (onStrand (c .strand) t) firsts nexts rows → (work work′ : List ℕ) (n row : ℕ) (r : Answer) → n ≡ row
     → StopsMatches (take rows firsts) nexts c n work work′ r → _≡_ {A = Outcome} (record { answer = r; work = work′; list = [] }) (stopped c s t work row)
 stop-accepted {c} {s} {t} y work work′ n row r en a =
-    let u = onStrand (c .strand) t in
-    a .outcome (isMatch c s u) (places (c .k) u) (described y)
-    ∙ (λ i. stoppedOf c (own-matches y i) (rows-long y i) work (en i))
+    a .outcome (matches c s (onStrand (c .strand) t)) (walk-to y)
+    ∙ (λ i. stoppedOf c (matches c s (onStrand (c .strand) t)) (rows-long y i) work (en i))
     ∙ stopped-own c s t work row (y .passed)

@@ -155,6 +155,7 @@ pub fn write_entry(entry: Entry, out: &mut [u8]) -> Written
     write_entry_of(0x10, entry, out)
 }
 
+// A reverse entry.
 pub fn write_reverse_entry(entry: Entry, out: &mut [u8]) -> Written
     ensures { λ r. ⌜ r ≡ written (entryFits entry) (reverseLine entry) (now (out .entry)) ⌝ }
     ensures { λ _. ⌜ now (out .exit) ≡ leaves (entryFits entry) (reverseLine entry) (now (out .entry)) ⌝ }
@@ -288,6 +289,7 @@ pub fn read_entry(line: &[u8]) -> EntryRead
     read_entry_of(0x10, line)
 }
 
+// A reverse entry.
 pub fn read_reverse_entry(line: &[u8]) -> EntryRead
     ensures { λ r. ⌜ r ≡ readReverse (now (line .entry)) ⌝ }
 {

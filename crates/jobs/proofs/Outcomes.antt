@@ -27,6 +27,7 @@ use Rattle.predecessors.specs.Numbers.{slotOf}
 use Rattle.sweep.specs.Sweeping.{SweepSafe, HoldsRun}
 use Rattle.strands.specs.Strands.{entriesOf, largerOf, Walked, WalkTo, CountsBoth, LinksBoth, ListsBoth}
 use Rattle.strands.proofs.Needs.{none-needed}
+use Rattle.strands.proofs.Tallies.{counted-to, linked-to}
 use Rattle.jobs.specs.Jobs.{runOf, comparedOf, stoppedOf, Holds, RingFrom, ComparesMatches, StopsMatches}
 use Rattle.jobs.proofs.Runs.{fewer-rows, same-run}
 
@@ -52,21 +53,24 @@ hold-safe row {firsts} {nexts} {c = c} w h l r =
 
 pub holds-none : {firsts nexts work work′ : List ℕ} {c : Settings} {widest row : ℕ} → widest ≡ 0 → work′ ≡ zeros work → Holds firsts nexts widest c row work work′ 0
 unfolding runOf keep laid recordsFrom thenZeros zeros
-holds-none {firsts} {nexts} {work} {work′} {c} {widest} {row} z e = record { held = go }
-  where
-    go : (hit : Cell → Bool) (columns : ℕ) → Described hit columns firsts nexts → widest ≡ largestRun (c .b) (matchesTo hit columns (length firsts)) (length firsts)
-        → (0 ≡ length (runOf c (matchesTo hit columns (length firsts)) row))
-        × (work′ ≡ thenZeros (laid recordNumbers (runOf c (matchesTo hit columns (length firsts)) row)) (length work))
-    go hit columns d q =
-        let n : length work - 0 ≡ length work = omega arith in
-        subst⁻¹ (λ (cells : List Cell). (0 ≡ length (runOf c cells row)) × (work′ ≡ thenZeros (laid recordNumbers (runOf c cells row)) (length work)))
-        (none-needed (c .b) hit columns (length firsts) (sym q ∙ z))
-        (refl, e ∙ sym (ap (λ (m : ℕ). replicate m 0) n))
+holds-none {firsts} {nexts} {work} {work′} {c} {widest} {row} z e =
+    record {
+      held = λ cells w q.
+          let n : length work - 0 ≡ length work = omega arith in
+          let none : cells ≡ [] = w .all ∙ none-needed (c .b) (w .hit) (w .columns) (length firsts) (ap (λ (l : List Cell). largestRun (c .b) l (length firsts)) (sym (w .all)) ∙ sym q ∙ z) in
+          subst⁻¹ (λ (l : List Cell). (0 ≡ length (runOf c l row)) × (work′ ≡ thenZeros (laid recordNumbers (runOf c l row)) (length work))) none
+          (refl, e ∙ sym (ap (λ (m : ℕ). replicate m 0) n));
+    }
 
 pub holds-swept : {firsts nexts work work′ : List ℕ} {c : Settings} {widest row last before n : ℕ} {ring : Ring} → row ≤ length firsts → last ≡ row - c .b - 1
     → MatchedBefore firsts nexts last before → RingFrom widest before ring → HoldsRun (take row firsts) nexts ring c work work′ n → Holds firsts nexts widest c row work work′ n
 unfolding runOf
-holds-swept {firsts} {nexts} {work} {work′} {c} {widest} {row} {last} {before} {n} {ring} h el mb rf run = record { held = go }
+holds-swept {firsts} {nexts} {work} {work′} {c} {widest} {row} {last} {before} {n} {ring} h el mb rf run =
+    record {
+      held = λ cells w e.
+          subst⁻¹ (λ (l : List Cell). (n ≡ length (runOf c l row)) × (work′ ≡ thenZeros (laid recordNumbers (runOf c l row)) (length work))) (w .all)
+          (go (w .hit) (w .columns) (w .described) (e ∙ ap (λ (l : List Cell). largestRun (c .b) l (length firsts)) (w .all)));
+    }
   where
     len : length (take row firsts) ≡ row
     len = length-take-le row firsts h
@@ -108,12 +112,10 @@ room-for : (list : List ℕ) (n : ℕ) → n ≤ listHolds list → 6 * n ≤ le
 unfolding listHolds
 room-for list n h = omega arith
 
--- M and W, as they were counted with b
-counted : {firsts nexts : List ℕ} (c : Settings) {b : ℕ} → b ≡ c .b → {counts : Counts} → Counted firsts nexts b counts → (hit : Cell → Bool) (columns : ℕ) → Described hit columns firsts nexts
-    → (counts .matches ≡ length (matchesTo hit columns (length firsts))) × (counts .widest ≡ largestRun (c .b) (matchesTo hit columns (length firsts)) (length firsts))
-counted {firsts} c eb n hit columns d =
-    let e = n .exact hit columns d in
-    (e .0, e .1 ∙ ap (λ (q : ℕ). largestRun q (matchesTo hit columns (length firsts)) (length firsts)) eb)
+-- W, as it was counted with b
+widest-is : {firsts nexts : List ℕ} (c : Settings) {b : ℕ} → b ≡ c .b → {counts : Counts} → Counted firsts nexts b counts → {cells : List Cell} → WalkTo firsts nexts cells
+    → counts .widest ≡ largestRun (c .b) cells (length firsts)
+widest-is {firsts} c eb n {cells} w = counted-to n w .1 ∙ ap (λ (q : ℕ). largestRun q cells (length firsts)) eb
 
 -- and the larger need of both strands
 needed : {firsts nexts reverse-firsts reverse-nexts : List ℕ} (c : Settings) {b : ℕ} → b ≡ c .b → {counts : Counts} → CountsBoth firsts nexts reverse-firsts reverse-nexts b counts
@@ -183,8 +185,8 @@ module _ {firsts nexts : List ℕ} {c : Settings} {work : List ℕ} {row b : ℕ
   unfolding zeroed zeros stoppedOf
   stopped-7 h er ew =
       record {
-        outcome = λ hit columns d.
-            let e = counted c eb n hit columns d .1 in
+        outcome = λ cells w.
+            let e = widest-is c eb n w in
             outcome-path (er ∙ ap (refusal 7 0) e) ew refl ∙ sym (stops-7 _ _ _ _ _ work row (omega arith));
       }
 
@@ -193,8 +195,8 @@ module _ {firsts nexts : List ℕ} {c : Settings} {work : List ℕ} {row b : ℕ
   unfolding zeroed zeros stoppedOf
   stopped-19 h g er ew =
       record {
-        outcome = λ hit columns d.
-            let e = counted c eb n hit columns d .1 in
+        outcome = λ cells w.
+            let e = widest-is c eb n w in
             outcome-path er ew refl ∙ sym (stops-19 _ _ _ _ _ work row (omega arith) g);
       }
 
@@ -204,13 +206,12 @@ module _ {firsts nexts : List ℕ} {c : Settings} {work : List ℕ} {row b : ℕ
   unfolding done stoppedOf
   stopped-0 {work′} {r} {held} {links} h g a l er = record { outcome = go }
     where
-      go : (hit : Cell → Bool) (columns : ℕ) → Described hit columns firsts nexts
-          → _≡_ {A = Outcome} (record { answer = r; work = work′; list = [] }) (stoppedOf c (matchesTo hit columns (length firsts)) (length firsts) work row)
-      go hit columns d =
-          let cells = matchesTo hit columns (length firsts) in
-          let m = counted c eb n hit columns d in
-          let v = a .held hit columns d (m .1) in
-          let k : links ≡ pairs (c .b) cells = l .exact hit columns d ∙ ap (λ (q : ℕ). pairs q cells) eb in
+      go : (cells : List Cell) → WalkTo firsts nexts cells → _≡_ {A = Outcome} (record { answer = r; work = work′; list = [] }) (stoppedOf c cells (length firsts) work row)
+      go cells w =
+          let m = counted-to n w .0 in
+          let e = widest-is c eb n w in
+          let v = a .held cells w e in
+          let k : links ≡ pairs (c .b) cells = linked-to l w ∙ ap (λ (q : ℕ). pairs q cells) eb in
           let answer : done held (counts .matches) (counts .widest) links ≡ done (length (runOf c cells row)) (length cells) (largestRun (c .b) cells (length firsts)) (pairs (c .b) cells) =
-          λ i. done (v .0 i) (m .0 i) (m .1 i) (k i) in
-          outcome-path (er ∙ answer) (v .1) refl ∙ sym (stops-0 _ _ _ _ _ work row (omega (arith, m .1)) g)
+          λ i. done (v .0 i) (m i) (e i) (k i) in
+          outcome-path (er ∙ answer) (v .1) refl ∙ sym (stops-0 _ _ _ _ _ work row (omega arith) g)

@@ -1,7 +1,6 @@
 -- The jobs from any matches in so many rows: what their outcome is, and that the functions give it for all matches that the walks come to. Assumes
 -- nothing.
 use mathlib.Core.Path.{_≡_}
-use mathlib.Core.Bool.{Bool}
 use mathlib.Core.List.{List, []}
 use Prim.Native.Nat.{ℕ, _+_}
 use lib.ListN.{length}
@@ -10,11 +9,9 @@ use Rattle.rules.specs.declared.Answer.{Answer}
 use Rattle.rules.specs.declared.Cell.{Cell}
 use Rattle.rules.specs.declared.Record.{Record}
 use Rattle.rules.specs.Lists.{keep, laid, thenZeros}
-use Rattle.rules.specs.Matches.{matchesTo}
 use Rattle.rules.specs.Records.{recordsFrom}
 use Rattle.rules.specs.Rooms.{recordNumbers, inRun, largestRun, pairs}
 use Rattle.rules.specs.Answers.{Outcome, comparing, stopping}
-use Rattle.matches.specs.Walks.{Described}
 use Rattle.predecessors.specs.declared.Ring.{Ring}
 use Rattle.predecessors.specs.Numbers.{RingFits, slotOf}
 use Rattle.strands.specs.Strands.{entriesOf, largerOf, WalkTo}
@@ -39,10 +36,8 @@ stoppedOf c cells rows work r = stopping (runOf c cells r) (length cells) (large
 
 -- the run of a row, where `widest` is W
 pub record Holds (firsts nexts : List ℕ) (widest : ℕ) (c : Settings) (r : ℕ) (work work′ : List ℕ) (n : ℕ) : Type 0 where
-  pub held : (hit : Cell → Bool) (columns : ℕ) → Described hit columns firsts nexts
-      → widest ≡ largestRun (c .b) (matchesTo hit columns (length firsts)) (length firsts)
-      → (n ≡ length (runOf c (matchesTo hit columns (length firsts)) r))
-      × (work′ ≡ thenZeros (laid recordNumbers (runOf c (matchesTo hit columns (length firsts)) r)) (length work))
+  pub held : (cells : List Cell) → WalkTo firsts nexts cells → widest ≡ largestRun (c .b) cells (length firsts)
+      → (n ≡ length (runOf c cells r)) × (work′ ≡ thenZeros (laid recordNumbers (runOf c cells r)) (length work))
 
 pub record RingFrom (size before : ℕ) (ring : Ring) : Type 0 where
   pub fits : RingFits ring
@@ -54,5 +49,5 @@ pub record ComparesMatches (firsts nexts reverse-firsts reverse-nexts : List ℕ
       → _≡_ {A = Outcome} (record { answer = r; work = work′; list = list′ }) (comparedOf c letters forward (length firsts) reverse (length reverse-firsts) work list)
 
 pub record StopsMatches (firsts nexts : List ℕ) (c : Settings) (row : ℕ) (work work′ : List ℕ) (r : Answer) : Type 0 where
-  pub outcome : (hit : Cell → Bool) (columns : ℕ) → Described hit columns firsts nexts
-      → _≡_ {A = Outcome} (record { answer = r; work = work′; list = [] }) (stoppedOf c (matchesTo hit columns (length firsts)) (length firsts) work row)
+  pub outcome : (cells : List Cell) → WalkTo firsts nexts cells
+      → _≡_ {A = Outcome} (record { answer = r; work = work′; list = [] }) (stoppedOf c cells (length firsts) work row)

@@ -16,7 +16,7 @@ use Rattle.strands.specs.Strands.{largerOf, WalkTo, CountsBoth, LinksBot
 
 -- ---- one strand
 
-counted-to : {firsts nexts : List ℕ} {cells : List Cell} {b : ℕ} {n : Counts} → Counted firsts nexts b n → WalkTo firsts nexts cells
+pub counted-to : {firsts nexts : List ℕ} {cells : List Cell} {b : ℕ} {n : Counts} → Counted firsts nexts b n → WalkTo firsts nexts cells
     → (n .matches ≡ length cells) × (n .widest ≡ largestRun b cells (length firsts))
 counted-to {firsts} {b = b} n w =
     let e = n .exact (w .hit) (w .columns) (w .described) in
@@ -25,7 +25,7 @@ counted-to {firsts} {b = b} n w =
 counted-few : {firsts nexts : List ℕ} {b : ℕ} {n : Counts} → Counted firsts nexts b n → WalkSafe firsts nexts → n .matches ≤ 2 ^ 28
 counted-few n s = let f = n .few in let r = s .few-rows in omega arith
 
-linked-to : {firsts nexts : List ℕ} {cells : List Cell} {b n : ℕ} → Linked firsts nexts b n → WalkTo firsts nexts cells → n ≡ pairs b cells
+pub linked-to : {firsts nexts : List ℕ} {cells : List Cell} {b n : ℕ} → Linked firsts nexts b n → WalkTo firsts nexts cells → n ≡ pairs b cells
 linked-to {b = b} n w = n .exact (w .hit) (w .columns) (w .described) ∙ ap (pairs b) (sym (w .all))
 
 few-cells : {firsts nexts : List ℕ} {cells : List Cell} → WalkSafe firsts nexts → WalkTo firsts nexts cells → length cells ≤ 16384 * 16384
