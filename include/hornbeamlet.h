@@ -4,7 +4,7 @@
  * Link with target/native/libhornbeamlet.a (tools/staticlib writes it). The
  * library needs memset and nothing else. It keeps no state, allocates nothing
  * and calls nobody back, so any number of threads may use it at once. A call
- * takes up to about 1.4 MB of stack.
+ * takes up to about 1.2 MB of stack.
  *
  * SETTINGS
  *

@@ -103,7 +103,7 @@ module _ {firsts nexts list : List ℕ} {c : Settings} {slots n : ℕ} (letters 
 
 -- ---- one behind the other
 
-pub end-inside : (at n : ℕ) (list : List ℕ) → at ≡ min n (length list) → at ≤ length list
+end-inside : (at n : ℕ) (list : List ℕ) → at ≡ min n (length list) → at ≤ length list
 end-inside at n list e = omega arith
 
 module _ (list rest : List ℕ) (at n : ℕ) (ea : at ≡ min (6 * n) (length list)) (same : length rest ≡ length (midOf at (length list - at) list)) where
