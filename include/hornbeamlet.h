@@ -41,8 +41,9 @@
  * matches, each a left extension of the next, and its weight is their number.
  * A match's predecessor is the left extension whose own heaviest chain weighs
  * most, of several the one in the smallest column; its start is where the
- * predecessors end. A match is closed if there is none further down and to
- * the right, both by 1 to b. The listing holds the closed matches.
+ * predecessors end. A match is closed if it is a left extension of none: no
+ * other lies at most b rows below it and at most b columns to its right, the
+ * same row and the same column included. The listing holds the closed matches.
  *
  * ROOMS
  *

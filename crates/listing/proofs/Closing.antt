@@ -1,27 +1,27 @@
--- Whether a match is closed can be told from the latest record of each column when its row leaves: all rows that could go on from it are stored by
--- then, and none beyond them. Assumes nothing.
-use mathlib.Core.Path.{_≡_, refl, ap, _∙_}
+-- Whether a match is closed can be told from the latest record of each column when its row leaves: all rows that it could go on to are stored by then,
+-- and none beyond them. Assumes nothing.
+use mathlib.Core.Path.{_≡_, refl, ap, subst, subst⁻¹}
 use mathlib.Core.Logic.{_⊎_, inl, inr}
 use mathlib.Core.Bool.{Bool, true, false, _&&_, _||_, not}
-use mathlib.Core.List.{List, List·Memᴰ}
+use mathlib.Core.List.{List}
 use Prim.Native.Nat.{ℕ, zero, suc, _+_, _-_, _≤_, _<_}
 use native.Mathlib.Omega.{arith}
 use native.Mathlib.Numerals.{add-one}
-use borrow.Author.Tests.{le-leb, lt-ltb, le-ltb}
-use lib.Dec.{T, leb, ltb}
+use borrow.Author.Tests.{le-leb, le-ltb}
+use lib.Dec.{T, leb}
 use lib.ListN.{length, getD, List·getD-eq-default}
 use Rattle.rules.specs.declared.Settings.{Settings}
 use Rattle.rules.specs.declared.Cell.{Cell}
 use Rattle.rules.specs.declared.Record.{Record}
 use Rattle.rules.specs.Lists.{anyOf}
-use Rattle.rules.specs.Listing.{firstSpan, secondSpan, beyond, closed, isListed}
-use Rattle.rules.proofs.Tests.{tests, T-and, T-leb, tested, T-true, T-false}
+use Rattle.rules.specs.Chains.{leftExtension}
+use Rattle.rules.specs.Listing.{firstSpan, secondSpan, longEnough, closed, isListed, Before}
+use Rattle.rules.proofs.Tests.{tests, T-and, T-leb, tested, T-true, T-false, Three, below, equal, above, three}
+use Rattle.rules.proofs.LeftExtensions.{extend-facts, facts-extend, not-self, not-after}
 use Rattle.rules.proofs.Listings.{any-has, any-some}
-use Rattle.rooms.specs.Layout.{recordIn}
-use Rattle.rooms.proofs.Slots.{holds-record}
 use Rattle.predecessors.specs.declared.Ring.{Ring}
-use Rattle.predecessors.specs.Numbers.{slotOf, nth}
-use Rattle.listing.specs.Leaving.{laterIn, someAfter, passes, ReleaseAsks}
+use Rattle.predecessors.specs.Numbers.{nth}
+use Rattle.listing.specs.Leaving.{laterIn, someFrom, passes, ReleaseAsks}
 
 -- two tests that say the same are equal
 same-test : (a b : Bool) → (T a → T b) → (T b → T a) → a ≡ b
@@ -30,148 +30,140 @@ same-test true false f g = absurd (f tt)
 same-test false true f g = absurd (g tt)
 same-test false false f g = refl
 
--- ---- one of the columns after j
+-- ---- one of the columns from j on
 
-pub some-at : (f : ℕ → Bool) (j n q : ℕ) → j < q → q ≤ j + n → T (f q) → T (someAfter f j n)
-unfolding someAfter
+some-at : (f : ℕ → Bool) (j n q : ℕ) → j ≤ q → q < j + n → T (f q) → T (someFrom f j n)
+unfolding someFrom
 some-at f j zero q h l t = absurd (omega arith)
-some-at f j (suc n) q h l t = go (tested (someAfter f j n)) (some-at f j n q h)
+some-at f j (suc n) q h l t = go (tested (someFrom f j n)) (some-at f j n q h)
   where
-    go : T (someAfter f j n) ⊎ (¬ T (someAfter f j n)) → (q ≤ j + n → T (f q) → T (someAfter f j n)) → T (someAfter f j n || f (j + suc n))
+    go : T (someFrom f j n) ⊎ (¬ T (someFrom f j n)) → (q < j + n → T (f q) → T (someFrom f j n)) → T (someFrom f j n || f (j + n))
     go (inl s) ih = simp tests (λ k. absurd (k s))
     go (inr s) ih =
-        let far : ¬ (q ≤ j + n) = λ k. s (ih k t) in
-        let e : q ≡ j + suc n = omega arith in
+        let far : ¬ (q < j + n) = λ k. s (ih k t) in
+        let e : q ≡ j + n = omega arith in
         simp tests (λ _. rw e at t)
 
-pub some-is : (f : ℕ → Bool) (j n : ℕ) → T (someAfter f j n) → (q : ℕ) × (j < q) × (q ≤ j + n) × T (f q)
-unfolding someAfter
+some-is : (f : ℕ → Bool) (j n : ℕ) → T (someFrom f j n) → (q : ℕ) × (j ≤ q) × (q < j + n) × T (f q)
+unfolding someFrom
 some-is f j zero t = absurd t
-some-is f j (suc n) t = go (tested (someAfter f j n)) (some-is f j n)
+some-is f j (suc n) t = go (tested (someFrom f j n)) (some-is f j n)
   where
-    go : T (someAfter f j n) ⊎ (¬ T (someAfter f j n)) → (T (someAfter f j n) → (q : ℕ) × (j < q) × (q ≤ j + n) × T (f q))
-        → (q : ℕ) × (j < q) × (q ≤ j + suc n) × T (f q)
+    go : T (someFrom f j n) ⊎ (¬ T (someFrom f j n)) → (T (someFrom f j n) → (q : ℕ) × (j ≤ q) × (q < j + n) × T (f q))
+        → (q : ℕ) × (j ≤ q) × (q < j + suc n) × T (f q)
     go (inl s) ih = let r = ih s in (r .0, r .1, omega (arith, r .2), r .3)
-    go (inr s) ih = let h = simp tests at t in (j + suc n, omega arith, omega arith, h s)
+    go (inr s) ih = let h = simp tests at t in (j + n, omega arith, omega arith, h s)
 
 -- the columns looked at so far, one more, and the first that passes
-pub some-none : (f : ℕ → Bool) (j : ℕ) → someAfter f j 0 ≡ false
-unfolding someAfter
+pub some-none : (f : ℕ → Bool) (j : ℕ) → someFrom f j 0 ≡ false
+unfolding someFrom
 some-none f j = refl
 
-pub some-next : (f : ℕ → Bool) (j n : ℕ) → someAfter f j n ≡ false → f (j + (n + 1)) ≡ false → someAfter f j (n + 1) ≡ false
-unfolding someAfter
-some-next f j n e d = rw (add-one n) (rw e (rw (add-one n) at d))
+pub some-next : (f : ℕ → Bool) (j n : ℕ) → someFrom f j n ≡ false → f (j + n) ≡ false → someFrom f j (n + 1) ≡ false
+unfolding someFrom
+some-next f j n e d = rw (add-one n) (rw (e, d))
 
-pub some-found : (f : ℕ → Bool) (j n b : ℕ) → n + 1 ≤ b → f (j + (n + 1)) ≡ true → someAfter f j b ≡ true
-some-found f j n b h e = T-true (someAfter f j b) (some-at f j b (j + (n + 1)) (omega arith) (omega arith) (rw e tt))
+pub some-found : (f : ℕ → Bool) (j n b : ℕ) → n ≤ b → f (j + n) ≡ true → someFrom f j (b + 1) ≡ true
+some-found f j n b h e = T-true (someFrom f j (b + 1)) (some-at f j (b + 1) (j + n) (omega arith) (omega arith) (rw e tt))
 
--- ---- a column's latest record
-
-module _ (room latest : List ℕ) (ring : Ring) (t row q : ℕ) where
-  pub later-none : getD latest q 0 ≤ t + 1 → laterIn room latest ring t row q ≡ false
-  unfolding laterIn
-  later-none h = rw (le-ltb (t + 1) (getD latest q 0) h)
-
-  pub later-outside : length latest ≤ q → laterIn room latest ring t row q ≡ false
-  later-outside h = later-none (let e = List·getD-eq-default latest 0 h in omega arith)
-
-  pub later-row : (y : Record) (slot : ℕ) → t + 1 < getD latest q 0 → slot ≡ slotOf ring (getD latest q 0 - 1) → y ≡ recordIn room slot
-      → ltb row (y .cell .row) ≡ laterIn room latest ring t row q
-  unfolding laterIn
-  later-row y slot h es ey = rw (lt-ltb (t + 1) (getD latest q 0) h) (ap (λ (z : Record). ltb row (z .cell .row)) (ey ∙ ap (recordIn room) es))
+-- outside the columns there is no record
+pub later-outside : (latest : List ℕ) (t q : ℕ) → length latest ≤ q → laterIn latest t q ≡ false
+unfolding laterIn
+later-outside latest t q h = le-ltb (t + 1) (getD latest q 0) (let e = List·getD-eq-default latest 0 h in omega arith)
 
 -- ---- the three tests of a listed match
 
-module _ (room latest : List ℕ) (ring : Ring) (t : ℕ) (x : Record) (c : Settings) where
+module _ (latest : List ℕ) (t : ℕ) (x : Record) (c : Settings) where
   abbrev goes : Bool
-  goes = someAfter (laterIn room latest ring t (x .cell .row)) (x .cell .column) (c .b)
+  goes = someFrom (laterIn latest t) (x .cell .column) (c .b + 1)
 
-  pub first-short : firstSpan (c .k) (x .start) (x .cell) < c .m → passes room latest ring t x c ≡ false
-  unfolding passes
-  first-short h = T-false (not goes && leb (c .m) (firstSpan (c .k) (x .start) (x .cell)) && leb (c .m) (secondSpan (c .k) (x .start) (x .cell)))
-      (λ u. let v = simp (T-and, T-leb) at u in omega (arith, v .0 .1))
+  abbrev first : ℕ
+  first = firstSpan (c .k) (x .start) (x .cell)
 
-  pub second-short : secondSpan (c .k) (x .start) (x .cell) < c .m → passes room latest ring t x c ≡ false
-  unfolding passes
-  second-short h = T-false (not goes && leb (c .m) (firstSpan (c .k) (x .start) (x .cell)) && leb (c .m) (secondSpan (c .k) (x .start) (x .cell)))
-      (λ u. let v = simp (T-and, T-leb) at u in omega (arith, v .1))
+  abbrev second : ℕ
+  second = secondSpan (c .k) (x .start) (x .cell)
 
-  pub goes-on : goes ≡ true → passes room latest ring t x c ≡ false
+  pub first-short : first < c .m → passes latest t x c ≡ false
+  unfolding passes longEnough
+  first-short h = T-false (not goes && (leb (c .m) first && leb (c .m) second)) (λ u. let v = simp (T-and, T-leb) at u in omega (arith, v .1 .0))
+
+  pub second-short : second < c .m → passes latest t x c ≡ false
+  unfolding passes longEnough
+  second-short h = T-false (not goes && (leb (c .m) first && leb (c .m) second)) (λ u. let v = simp (T-and, T-leb) at u in omega (arith, v .1 .1))
+
+  pub goes-on : goes ≡ true → passes latest t x c ≡ false
   unfolding passes
   goes-on e = rw e
 
-  pub all-pass : goes ≡ false → c .m ≤ firstSpan (c .k) (x .start) (x .cell) → c .m ≤ secondSpan (c .k) (x .start) (x .cell) → passes room latest ring t x c ≡ true
-  unfolding passes
-  all-pass e h g = rw (e, le-leb (c .m) (firstSpan (c .k) (x .start) (x .cell)) h, le-leb (c .m) (secondSpan (c .k) (x .start) (x .cell)) g)
+  pub all-pass : goes ≡ false → c .m ≤ first → c .m ≤ second → passes latest t x c ≡ true
+  unfolding passes longEnough
+  all-pass e h g = rw (e, le-leb (c .m) first h, le-leb (c .m) second g)
 
 -- ---- and that is the rule
-
-beyond-is : (b : ℕ) (x y : Cell) → T (beyond b x y) → (x .row < y .row) × (y .row ≤ x .row + b) × (x .column < y .column) × (y .column ≤ x .column + b)
-unfolding beyond
-beyond-is b x y t = let h = simp (beyond, tests) at t in (omega arith, omega arith, omega arith, omega arith)
 
 module _ (c : Settings) (i k : ℕ) (all : List Record) (cells : List Cell) (room latest : List ℕ) (ring : Ring) (tail head t : ℕ)
     (a : ReleaseAsks c i k all cells room latest ring tail head) (from : tail ≤ t) (here : t < length all) (old : nth all t .cell .row + c .b < i) where
   abbrev x : Record
   x = nth all t
 
-  -- column q's latest record, where it lies after record t, is in the room
-  last-is : (q : ℕ) → t + 1 < getD latest q 0 → recordIn room (slotOf ring (getD latest q 0 - 1)) ≡ nth all (getD latest q 0 - 1)
-  last-is q h =
-      let w = a .machine .columns .within q in
-      holds-record room (slotOf ring (getD latest q 0 - 1)) (nth all (getD latest q 0 - 1)) (a .machine .stored (getD latest q 0 - 1) (omega arith) (omega arith))
-
-  -- a later record in column q shows
-  later-shows : (g : ℕ) → g < length all → x .cell .row < nth all g .cell .row → T (laterIn room latest ring t (x .cell .row) (nth all g .cell .column))
+  -- a match that x goes on to comes after it, and so does its column's latest
+  later-shows : (g : ℕ) → g < length all → T (leftExtension (c .b) (x .cell) (nth all g .cell)) → T (laterIn latest t (nth all g .cell .column))
   unfolding laterIn
-  later-shows g l h =
-      let q = nth all g .cell .column in
-      let n = a .machine .columns .newest g l in
-      let w = a .machine .columns .within q in
-      let after : t < g = (let z : ¬ (g ≤ t) = λ le. (let s = a .sorted g t le here in omega arith) in omega arith) in
-      let s = a .sorted g (getD latest q 0 - 1) (omega arith) (omega arith) in
-      let e = ap (λ (r : Record). r .cell .row) (last-is q (omega arith)) in
-      simp tests (omega arith, omega arith)
+  later-shows g l e = go (three t g)
+    where
+      go : Three t g → T (laterIn latest t (nth all g .cell .column))
+      go (below h) = let n = a .machine .columns .newest g l in simp tests (omega arith)
+      go (equal h) = absurd (not-self (c .b) (x .cell) (subst⁻¹ (λ (n : ℕ). T (leftExtension (c .b) (x .cell) (nth all n .cell))) h e))
+      go (above h) = absurd (not-after (c .b) (nth all g .cell) (x .cell) (a .sorted g t h here) e)
 
-  -- and what shows is a match beyond
-  shows-beyond : (q : ℕ) → x .cell .column < q → q ≤ x .cell .column + c .b → T (laterIn room latest ring t (x .cell .row) q) → T (anyOf (beyond (c .b) (x .cell)) cells)
-  unfolding laterIn beyond
-  shows-beyond q h l u =
+  -- and a column's latest that comes after x is a match that x goes on to
+  shows-later : (q : ℕ) → x .cell .column ≤ q → q < x .cell .column + (c .b + 1) → T (laterIn latest t q) → T (anyOf (leftExtension (c .b) (x .cell)) cells)
+  unfolding laterIn
+  shows-later q h l u =
       let v = simp tests at u in
       let s = getD latest q 0 - 1 in
       let w = a .machine .columns .within q in
-      let e = ap (λ (r : Record). r .cell .row) (last-is q (v .0)) in
-      let ec = a .machine .columns .column q (omega arith) in
+      let e = a .machine .columns .column q (omega arith) in
       let r = a .rows s (omega arith) in
       let n = a .machine .kept t from here in
-      any-has (beyond (c .b) (x .cell)) cells (nth all s .cell) (a .matches s (omega arith)) (simp (beyond, tests) (omega arith))
-
-  pub closed-now : not (someAfter (laterIn room latest ring t (x .cell .row)) (x .cell .column) (c .b)) ≡ closed (c .b) cells (x .cell)
-  unfolding closed
-  closed-now = ap not (same-test (someAfter (laterIn room latest ring t (x .cell .row)) (x .cell .column) (c .b)) (anyOf (beyond (c .b) (x .cell)) cells) forth back)
+      any-has (leftExtension (c .b) (x .cell)) cells (nth all s .cell) (a .matches s (omega arith))
+      (follows (nth all s .cell) (a .sorted t s (omega arith) (omega arith)) (omega arith) (omega arith) (omega arith))
     where
-      forth : T (someAfter (laterIn room latest ring t (x .cell .row)) (x .cell .column) (c .b)) → T (anyOf (beyond (c .b) (x .cell)) cells)
-      forth u =
-          let (q, h, l, v) = some-is (laterIn room latest ring t (x .cell .row)) (x .cell .column) (c .b) u in
-          shows-beyond q h l v
-
-      back : T (anyOf (beyond (c .b) (x .cell)) cells) → T (someAfter (laterIn room latest ring t (x .cell .row)) (x .cell .column) (c .b))
-      back u = later (any-some (beyond (c .b) (x .cell)) cells u)
+      follows : (y : Cell) → Before (x .cell) y → y .row ≤ x .cell .row + c .b → x .cell .column ≤ y .column → y .column ≤ x .cell .column + c .b
+          → T (leftExtension (c .b) (x .cell) y)
+      follows y f rn cl cn =
+          facts-extend (c .b) (x .cell) y
+          (record { row-le = f .row-le; row-near = rn; column-le = cl; column-near = cn; moved = by (three (x .cell .row) (y .row)) })
         where
-          later : (y : Cell) × List·Memᴰ y cells × T (beyond (c .b) (x .cell) y) → T (someAfter (laterIn room latest ring t (x .cell .row)) (x .cell .column) (c .b))
-          later f = by-number (f .0) (beyond-is (c .b) (x .cell) (f .0) (f .2)) (λ h. a .known (f .0) (f .1) h)
-            where
-              by-number : (y : Cell) → (x .cell .row < y .row) × (y .row ≤ x .cell .row + c .b) × (x .cell .column < y .column) × (y .column ≤ x .cell .column + c .b)
-                  → (y .row < i → (g : ℕ) × (g < length all) × (y ≡ nth all g .cell)) → T (someAfter (laterIn room latest ring t (x .cell .row)) (x .cell .column) (c .b))
-              by-number y d n =
-                  let (g, l, e) = n (omega (arith, d .1)) in
-                  let er = ap (λ (z : Cell). z .row) e in
-                  let ec = ap (λ (z : Cell). z .column) e in
-                  some-at (laterIn room latest ring t (x .cell .row)) (x .cell .column) (c .b) (nth all g .cell .column) (omega (arith, d .2)) (omega (arith, d .3))
-                  (later-shows g l (omega (arith, d .0)))
+          by : Three (x .cell .row) (y .row) → x .cell .row + x .cell .column < y .row + y .column
+          by (below h) = omega arith
+          by (equal h) = omega (arith, f .column-lt h)
+          by (above h) = absurd (omega (arith, f .row-le))
+
+  pub closed-now : not (someFrom (laterIn latest t) (x .cell .column) (c .b + 1)) ≡ closed (c .b) cells (x .cell)
+  unfolding closed
+  closed-now = ap not (same-test (someFrom (laterIn latest t) (x .cell .column) (c .b + 1)) (anyOf (leftExtension (c .b) (x .cell)) cells) forth back)
+    where
+      forth : T (someFrom (laterIn latest t) (x .cell .column) (c .b + 1)) → T (anyOf (leftExtension (c .b) (x .cell)) cells)
+      forth u =
+          let (q, h, l, v) = some-is (laterIn latest t) (x .cell .column) (c .b + 1) u in
+          shows-later q h l v
+
+      back : T (anyOf (leftExtension (c .b) (x .cell)) cells) → T (someFrom (laterIn latest t) (x .cell .column) (c .b + 1))
+      back u =
+          let (y, m, e) = any-some (leftExtension (c .b) (x .cell)) cells u in
+          by-number y e (a .known y m)
+        where
+          by-number : (y : Cell) → T (leftExtension (c .b) (x .cell) y) → (y .row < i → (g : ℕ) × (g < length all) × (y ≡ nth all g .cell))
+              → T (someFrom (laterIn latest t) (x .cell .column) (c .b + 1))
+          by-number y e n =
+              let f = extend-facts (c .b) (x .cell) y e in
+              let (g, l, q) = n (omega (arith, f .row-near)) in
+              let ec = ap (λ (z : Cell). z .column) q in
+              some-at (laterIn latest t) (x .cell .column) (c .b + 1) (nth all g .cell .column) (omega (arith, f .column-le)) (omega (arith, f .column-near))
+              (later-shows g l (subst (λ (z : Cell). T (leftExtension (c .b) (x .cell) z)) q e))
 
   -- so a record passes where its match is listed
-  pub passes-listed : passes room latest ring t x c ≡ isListed c cells x
+  pub passes-listed : passes latest t x c ≡ isListed c cells x
   unfolding passes isListed
   passes-listed = rw closed-now

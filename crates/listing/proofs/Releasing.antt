@@ -23,6 +23,7 @@ use Rattle.rooms.proofs.Slots.{holds-record, entry-fits}
 use Rattle.predecessors.specs.declared.Ring.{Ring}
 use Rattle.predecessors.specs.Numbers.{slotOf, nothing, nth}
 use Rattle.predecessors.specs.Index.{InRoom}
+use Rattle.predecessors.proofs.Steps.{rows-sorted}
 use Rattle.rows.specs.Machine.{Machine}
 use Rattle.listing.specs.Leaving.{passes, listedCount, listedRoom, ListedTo, ReleaseSafe, ReleaseAsks, ReleaseDone}
 use Rattle.listing.proofs.Closing.{passes-listed}
@@ -164,7 +165,7 @@ module _ {c : Settings} {i : ℕ} {room latest : List ℕ} {ring : Ring} {tail h
     released-here h {x} {slot} es ex l =
         done (omega arith) (λ k all cells a g q w.
         let e = ap (λ (r : Record). r .cell .row) (read-is all (a .machine .stored) (a .counted) h x slot es ex) in
-        let o = a .sorted t g q w in
+        let o = rows-sorted all (a .sorted) t g q w in
         omega arith)
 
     -- no record is left
@@ -173,7 +174,7 @@ module _ {c : Settings} {i : ℕ} {room latest : List ℕ} {ring : Ring} {tail h
 
     -- record t is old, and is listed or not
     pub releasing-next : t < head → {x : Record} {slot : ℕ} → slot ≡ slotOf ring (t + 1 - 1) → x ≡ recordIn room slot → x .cell .row + c .b < i
-        → {list′ : List ℕ} {n′ : ℕ} → n′ ≡ listedCount (passes room latest ring t x c) n → list′ ≡ listedRoom (passes room latest ring t x c) (c .k) x list n
+        → {list′ : List ℕ} {n′ : ℕ} → n′ ≡ listedCount (passes latest t x c) n → list′ ≡ listedRoom (passes latest t x c) (c .k) x list n
         → Releasing c i room latest ring tail head list₀ listed₀ (t + 1) list′ n′
     unfolding listedCount
     releasing-next h {x} {slot} es ex l {list′} {n′} en el =
@@ -181,8 +182,8 @@ module _ {c : Settings} {i : ℕ} {room latest : List ℕ} {ring : Ring} {tail h
         record {
           from = omega arith;
           to = omega arith;
-          few = count-few (passes room latest ring t x c) en;
-          size = ap length el ∙ room-length (passes room latest ring t x c) (c .k) x list n ∙ v .size;
+          few = count-few (passes latest t x c) en;
+          size = ap length el ∙ room-length (passes latest t x c) (c .k) x list n ∙ v .size;
           old = λ all r e g q w. older all r e g q w (three g t);
           entered = λ k all cells a w. more k all cells a (v .entered k all cells a w);
         }
@@ -203,13 +204,13 @@ module _ {c : Settings} {i : ℕ} {room latest : List ℕ} {ring : Ring} {tail h
             let cn = a .counted in
             let here : t < length all = omega arith in
             let dr = ap (λ (y : Record). y .cell .row) d in
-            let p : passes room latest ring t x c ≡ isListed c cells x =
-            subst⁻¹ (λ (y : Record). passes room latest ring t y c ≡ isListed c cells y) d
+            let p : passes latest t x c ≡ isListed c cells x =
+            subst⁻¹ (λ (y : Record). passes latest t y c ≡ isListed c cells y) d
             (passes-listed c i k all cells room latest ring tail head t a (v .from) here (omega arith)) in
             let sm = a .small t here in
             let dc = ap (λ (y : Record). y .cell .column) d in
-            let one = one-more c cells (take t all) list n x w (s .some-base) (omega (arith, sm .0)) (omega (arith, sm .1)) (passes room latest ring t x c) p in
+            let one = one-more c cells (take t all) list n x w (s .some-base) (omega (arith, sm .0)) (omega (arith, sm .1)) (passes latest t x c) p in
             let e : take (t + 1) all ≡ take t all ++ (x ∷ []) = ap (λ (q : ℕ). take q all) (add-one t) ∙ take-suc all t nothing here ∙ ap (λ (y : Record). take t all ++ (y ∷ [])) (sym d) in
             subst⁻¹ (λ (r : List Record). ListedTo c cells r list′ n′) e
             (subst⁻¹ (λ (l : List ℕ). ListedTo c cells (take t all ++ (x ∷ [])) l n′) el
-            (subst⁻¹ (λ (q : ℕ). ListedTo c cells (take t all ++ (x ∷ [])) (listedRoom (passes room latest ring t x c) (c .k) x list n) q) en one))
+            (subst⁻¹ (λ (q : ℕ). ListedTo c cells (take t all ++ (x ∷ [])) (listedRoom (passes latest t x c) (c .k) x list n) q) en one))

@@ -2,39 +2,35 @@
 use mathlib.Core.Path.{_≡_}
 use mathlib.Core.Bool.{Bool, false, cond, _&&_, _||_, not}
 use mathlib.Core.List.{List, List·Memᴰ}
-use Prim.Native.Nat.{ℕ, zero, suc, _+_, _-_, _*_, _^_, _≤_, _<_}
-use lib.Dec.{leb, ltb}
+use Prim.Native.Nat.{ℕ, zero, suc, _+_, _*_, _^_, _≤_, _<_}
+use lib.Dec.{ltb}
 use lib.ListN.{length, getD, take}
 use Rattle.rules.specs.declared.Settings.{Settings}
 use Rattle.rules.specs.declared.Cell.{Cell}
 use Rattle.rules.specs.declared.Record.{Record}
 use Rattle.rules.specs.Lists.{keep, laid}
-use Rattle.rules.specs.Listing.{firstSpan, secondSpan, isListed, entryNumbers}
+use Rattle.rules.specs.Listing.{longEnough, isListed, entryNumbers}
 use Rattle.rules.specs.Rooms.{listHolds}
-use Rattle.rooms.specs.Layout.{recordIn, putEntry}
+use Rattle.rooms.specs.Layout.{putEntry}
 use Rattle.predecessors.specs.declared.Ring.{Ring}
-use Rattle.predecessors.specs.Numbers.{RingFits, slotOf, nth}
+use Rattle.predecessors.specs.Numbers.{RingFits, nth}
 use Rattle.predecessors.specs.Index.{Sorted}
 use Rattle.rows.specs.Machine.{Machine}
 use Rattle.listing.specs.declared.Released.{Released}
 
--- column q's latest record lies after record t, and in a later row than `row`
-unfoldable pub laterIn : List ℕ → List ℕ → Ring → ℕ → ℕ → ℕ → Bool
-laterIn room latest ring t row q =
-    ltb (t + 1) (getD latest q 0) && ltb row (recordIn room (slotOf ring (getD latest q 0 - 1)) .cell .row)
+-- column q's latest record comes after record t
+unfoldable pub laterIn : List ℕ → ℕ → ℕ → Bool
+laterIn latest t q = ltb (t + 1) (getD latest q 0)
 
--- one of the n columns after column j passes
-unfoldable pub someAfter : (ℕ → Bool) → ℕ → ℕ → Bool
-someAfter f j zero = false
-someAfter f j (suc n) = someAfter f j n || f (j + suc n)
+-- one of the n columns from column j on passes
+unfoldable pub someFrom : (ℕ → Bool) → ℕ → ℕ → Bool
+someFrom f j zero = false
+someFrom f j (suc n) = someFrom f j n || f (j + n)
 
 -- record t, the match x, is listed as far as the latest records tell
-unfoldable pub passes : List ℕ → List ℕ → Ring → ℕ → Record → Settings → Bool
-unfolding laterIn someAfter
-passes room latest ring t x c =
-    not (someAfter (laterIn room latest ring t (x .cell .row)) (x .cell .column) (c .b))
-    && leb (c .m) (firstSpan (c .k) (x .start) (x .cell))
-    && leb (c .m) (secondSpan (c .k) (x .start) (x .cell))
+unfoldable pub passes : List ℕ → ℕ → Record → Settings → Bool
+unfolding laterIn someFrom longEnough
+passes latest t x c = not (someFrom (laterIn latest t) (x .cell .column) (c .b + 1)) && longEnough c x
 
 -- how many entries there are after a record that passes or does not
 unfoldable pub listedCount : Bool → ℕ → ℕ

@@ -3,46 +3,34 @@ use predecessors::Ring;
 use rules::Record;
 use rules::Settings;
 ghost use mathlib.Core.Path.{_≡_};
-ghost use Prim.Native.Nat.{_+_, _-_, _*_, _^_, _≤_, _<_};
-ghost use lib.ListN.{length};
-ghost use Rattle.predecessors.specs.Numbers.{RingFits};
-ghost use Rattle.listing.specs.Leaving.{laterIn, someAfter, passes, listedCount, listedRoom, ReleaseSafe, ReleaseDone};
+ghost use Prim.Native.Nat.{_+_, _-_, _^_, _≤_, _<_};
+ghost use Rattle.listing.specs.Leaving.{laterIn, someFrom, passes, listedCount, listedRoom, ReleaseSafe, ReleaseDone};
 
-// Whether a match goes on in column q: the column's latest record lies after record t, and in a later row.
-fn goes_on(room: &[u32], latest: &[u32], ring: Ring, t: usize, row: u32, q: usize) -> bool
-    requires { ⌜ RingFits ring ⌝ }
-    requires { ⌜ 8 * ring .size ≤ length (now room) ⌝ }
+// Whether a record of column q comes after record t: the column's latest does.
+fn goes_on(latest: &[u32], t: usize, q: usize) -> bool
     requires { ⌜ t < 2 ^ 32 ⌝ }
-    ensures { λ r. ⌜ r ≡ laterIn (now (room .entry)) (now (latest .entry)) ring t row q ⌝ }
+    ensures { λ r. ⌜ r ≡ laterIn (now (latest .entry)) t q ⌝ }
 {
     if latest.len() <= q {
         return false;
     }
-    let s = latest[q] as usize;
-    if s <= t + 1 {
-        return false;
-    }
-    let y = rooms::record_at(room, predecessors::slot(ring, s));
-    row < y.cell.row
+    t + 1 < latest[q] as usize
 }
 
-// Whether record t, the match x, is not closed: some match lies 1 to b rows and 1 to b columns on. At most b columns are looked at, and few where
-// matches are many.
-fn is_open(room: &[u32], latest: &[u32], ring: Ring, t: usize, x: Record, b: usize) -> bool
-    requires { ⌜ RingFits ring ⌝ }
-    requires { ⌜ 8 * ring .size ≤ length (now room) ⌝ }
+// Whether record t, a match of column j, is not closed. As it leaves, no record is more than b rows on, and those after it lie below it, or in its row
+// and to its right: it is a left extension of each that columns j to j + b have. At most b + 1 columns are looked at, and few where matches are many.
+fn is_open(latest: &[u32], t: usize, j: usize, b: usize) -> bool
     requires { ⌜ t < 2 ^ 32 ⌝ }
+    requires { ⌜ j < 2 ^ 32 ⌝ }
     requires { ⌜ b < 2 ^ 32 ⌝ }
-    ensures { λ r. ⌜ r ≡ someAfter (laterIn (now (room .entry)) (now (latest .entry)) ring t (x .cell .row)) (x .cell .column) b ⌝ }
+    ensures { λ r. ⌜ r ≡ someFrom (laterIn (now (latest .entry)) t) j (b + 1) ⌝ }
 {
-    let row = x.cell.row;
-    let j = casts::wide(x.cell.column);
     let mut n: usize = 0;
-    while n < b {
-        n += 1;
-        if goes_on(room, latest, ring, t, row, j + n) {
+    while n <= b {
+        if goes_on(latest, t, j + n) {
             return true;
         }
+        n += 1;
     }
     false
 }
@@ -60,11 +48,9 @@ fn span(last: u32, k: u32, start: u32) -> u64
 }
 
 // Whether record t, the match x, is listed: closed, and both spans at least m. The spans are tested first, since they cost least.
-fn is_listed(room: &[u32], latest: &[u32], ring: Ring, t: usize, x: Record, c: Settings) -> bool
-    requires { ⌜ RingFits ring ⌝ }
-    requires { ⌜ 8 * ring .size ≤ length (now room) ⌝ }
+fn is_listed(latest: &[u32], t: usize, x: Record, c: Settings) -> bool
     requires { ⌜ t < 2 ^ 32 ⌝ }
-    ensures { λ r. ⌜ r ≡ passes (now (room .entry)) (now (latest .entry)) ring t x c ⌝ }
+    ensures { λ r. ⌜ r ≡ passes (now (latest .entry)) t x c ⌝ }
 {
     let m = c.m as u64;
     if span(x.cell.row, c.k, x.start.row) < m {
@@ -73,8 +59,9 @@ fn is_listed(room: &[u32], latest: &[u32], ring: Ring, t: usize, x: Record, c: S
     if span(x.cell.column, c.k, x.start.column) < m {
         return false;
     }
+    let j = casts::wide(x.cell.column);
     let b = casts::wide(c.b);
-    if is_open(room, latest, ring, t, x, b) {
+    if is_open(latest, t, j, b) {
         return false;
     }
     true
@@ -82,24 +69,20 @@ fn is_listed(room: &[u32], latest: &[u32], ring: Ring, t: usize, x: Record, c: S
 
 // Lists record t, the match x, behind n entries if it is listed, and returns how many there are then: also those that the list room cannot hold.
 fn list_record(
-    room: &[u32],
     latest: &[u32],
-    ring: Ring,
     t: usize,
     x: Record,
     c: Settings,
     list: &mut [u32],
     n: usize,
 ) -> usize
-    requires { ⌜ RingFits ring ⌝ }
-    requires { ⌜ 8 * ring .size ≤ length (now room) ⌝ }
     requires { ⌜ t < 2 ^ 32 ⌝ }
     requires { ⌜ n < 2 ^ 32 ⌝ }
     requires { ⌜ 1 ≤ c .k ⌝ }
-    ensures { λ r. ⌜ r ≡ listedCount (passes (now (room .entry)) (now (latest .entry)) ring t x c) n ⌝ }
-    ensures { λ _. ⌜ now (list .exit) ≡ listedRoom (passes (now (room .entry)) (now (latest .entry)) ring t x c) (c .k) x (now (list .entry)) n ⌝ }
+    ensures { λ r. ⌜ r ≡ listedCount (passes (now (latest .entry)) t x c) n ⌝ }
+    ensures { λ _. ⌜ now (list .exit) ≡ listedRoom (passes (now (latest .entry)) t x c) (c .k) x (now (list .entry)) n ⌝ }
 {
-    if is_listed(room, latest, ring, t, x, c) {
+    if is_listed(latest, t, x, c) {
         if n < rooms::entry_count(list) {
             rooms::put_entry(list, n, c.k, x);
             return n + 1;
@@ -139,7 +122,7 @@ pub fn release(
         if i <= casts::wide(x.cell.row) + b {
             return Released { tail: t, listed: n };
         }
-        n = list_record(room, latest, ring, t, x, c, list, n);
+        n = list_record(latest, t, x, c, list, n);
         t += 1;
     }
     Released { tail: t, listed: n }

@@ -5,6 +5,7 @@ use mathlib.Core.Bool.{true, false, cond}
 use mathlib.Core.Option.{none, some}
 use mathlib.Core.List.{List, [], _∷_, List·Memᴰ, List·Memᴰ·head, List·Memᴰ·tail}
 use Prim.Native.Nat.{ℕ, zero, suc, _+_, _-_, _≤_, _<_}
+use native.Mathlib.Nat.{le-of-eq}
 use native.Mathlib.Omega.{arith}
 use borrow.Author.Tests.{ne-eqb, le-leb, lt-leb}
 use lib.Dec.{T, leb}
@@ -13,13 +14,13 @@ use Rattle.rules.specs.declared.Cell.{Cell}
 use Rattle.rules.specs.declared.Record.{Record}
 use Rattle.rules.specs.Matches.{cell}
 use Rattle.rules.specs.Records.{beats, better, pick}
-use Rattle.rules.proofs.Tests.{tested, tests}
+use Rattle.rules.proofs.Tests.{Three, below, equal, above, three, tested, tests}
 use Rattle.rules.proofs.Ties.{Under}
 use Rattle.rooms.specs.Layout.{recordIn}
 use Rattle.rooms.proofs.Slots.{holds-record}
 use Rattle.predecessors.specs.declared.Ring.{Ring}
 use Rattle.predecessors.specs.Numbers.{slotOf, numbered, nth}
-use Rattle.predecessors.specs.Index.{Known, Nearest, no-near, has-near, Ready, Found}
+use Rattle.predecessors.specs.Index.{Known, Sorted, Nearest, no-near, has-near, Ready, Found}
 use Rattle.predecessors.proofs.Walks.{Near, Walk, beyond, best-is, is-near, walk-none, walk-near, walk-skip, walk-take, walk-end, walk-stop}
 
 pub cond-yes : (lo column x y : ℕ) → lo ≤ column → x ≡ cond (leb lo column) x y
@@ -66,6 +67,15 @@ mem-nth (x ∷ xs) (suc g) h = List·Memᴰ·tail (mem-nth xs g (omega arith))
 pub nth-mem : (all : List Record) (x : Record) → List·Memᴰ x all → (g : ℕ) × (g < length all) × (x ≡ nth all g)
 nth-mem all x (List·Memᴰ·head {x = y} {xs = ys} e) = (0, omega arith, e)
 nth-mem all x (List·Memᴰ·tail {x = y} {xs = ys} m) = let (g, h, e) = nth-mem ys x m in (suc g, omega arith, e)
+
+-- numbers go by row
+pub rows-sorted : (all : List Record) → Sorted all → (g h : ℕ) → g ≤ h → h < length all → nth all g .cell .row ≤ nth all h .cell .row
+rows-sorted all s g h l k = go (three g h)
+  where
+    go : Three g h → nth all g .cell .row ≤ nth all h .cell .row
+    go (below q) = s g h q k .row-le
+    go (equal q) = le-of-eq (ap (λ (n : ℕ). nth all n .cell .row) q)
+    go (above q) = absurd (omega arith)
 
 -- what a search has left so far: the columns above q are passed, and top is the latest number met, or tail
 pub data Met (b : ℕ) (c : Cell) (all : List Record) (tail q top : ℕ) : Type 0 where
@@ -158,7 +168,7 @@ module _ {room latest : List ℕ} {ring : Ring} {tail near column from b j : ℕ
           by : Met b c all tail q top → (k : ℕ) → k < length all → k < top → x .cell .row ≡ nth all k .cell .row → Under x (numbered room ring best)
           by (met-none t) k l kt pr = absurd (let u = g .gone k (omega arith) l in let w = n .left in omega arith)
           by (met-one t u ny f) k l kt pr =
-              let s = g .sorted k (top - 1) (omega arith) (omega arith) in
+              let s = rows-sorted all (g .sorted) k (top - 1) (omega arith) (omega arith) in
               beyond b c all (g .known) x (nth all (top - 1)) (numbered room ring best) n ny (omega arith) (omega arith)
               (v .passed i all g .walk .over (nth all (top - 1)) ny f)
 
@@ -215,7 +225,7 @@ module _ {room latest : List ℕ} {ring : Ring} {tail near column from b j : ℕ
             let pr = ap (λ (y : Record). y .cell .row) p in
             let new : k < getD latest (nth all k .cell .column) 0 = g .columns .newest k l in
             let same : getD latest (nth all k .cell .column) 0 ≡ getD latest q 0 = ap (λ (t : ℕ). getD latest t 0) (sym pc ∙ e) in
-            let o = g .sorted k (s - 1) (omega arith) s-in in
+            let o = rows-sorted all (g .sorted) k (s - 1) (omega arith) s-in in
             omega arith
 
         taken : Walk b (cell i j) all (q - 1) stop (numbered room ring r)

@@ -13,7 +13,7 @@ use Rattle.rules.specs.declared.Cell.{Cell}
 use Rattle.rules.specs.declared.Record.{Record}
 use Rattle.rules.specs.Matches.{cell, rowTo, matchesTo}
 use Rattle.rules.specs.Records.{pick, recordAfter, recordOf}
-use Rattle.rules.specs.Listing.{Ordered}
+use Rattle.rules.specs.Listing.{Before, Ordered}
 use Rattle.rules.proofs.LeftExtensions.{extend-facts, facts-extend}
 use Rattle.rules.proofs.Weights.{heavy, Sure, pick-sure, pick-heavy, sweep-cells}
 use Rattle.rules.proofs.MatchList.{row-in, matches-in, row-ordered, matches-ordered, ordered-append}
@@ -63,10 +63,10 @@ module _ (b : ℕ) (all : List Record) (fixed : (x : Record) → List·Memᴰ x 
   fixed-light p x m = light-to p (x .cell .row + x .cell .column) x m (le-refl _)
 
 -- by number
-ordered-at : (cs : List Cell) → Ordered cs → (d : Cell) (g h : ℕ) → g ≤ h → h < length cs → getD cs g d .row ≤ getD cs h d .row
+ordered-at : (cs : List Cell) → Ordered cs → (d : Cell) (g h : ℕ) → g < h → h < length cs → Before (getD cs g d) (getD cs h d)
 ordered-at [] o d g h l k = absurd (omega arith)
-ordered-at (c ∷ cs) o d zero zero l k = le-refl _
-ordered-at (c ∷ cs) o d zero (suc h) l k = o .0 (getD cs h d) (mem-at cs h (omega arith)) .row-le
+ordered-at (c ∷ cs) o d zero zero l k = absurd (omega arith)
+ordered-at (c ∷ cs) o d zero (suc h) l k = o .0 (getD cs h d) (mem-at cs h (omega arith))
   where
     mem-at : (cs : List Cell) (h : ℕ) → h < length cs → List·Memᴰ (getD cs h d) cs
     mem-at [] h l = absurd (omega arith)
@@ -133,11 +133,9 @@ module _ (b : ℕ) (hit : Cell → Bool) (columns : ℕ) (i j : ℕ) where
   swept-sorted g h l k =
       let e = ap length swept-cells in
       let n = length-cells all in
-      let o = ordered-at (matchedTo b hit columns i j) matched-ordered (cell 0 0) g h l (omega arith) in
       let at : (t : ℕ) → getD (matchedTo b hit columns i j) t (cell 0 0) ≡ nth all t .cell = λ t. ap (λ (cs : List Cell). getD cs t (cell 0 0)) (sym swept-cells) ∙ nth-cell all t in
-      let eg = ap (λ (y : Cell). y .row) (at g) in
-      let eh = ap (λ (y : Cell). y .row) (at h) in
-      omega arith
+      subst (λ (x : Cell). Before x (nth all h .cell)) (at g)
+      (subst (Before (getD (matchedTo b hit columns i j) g (cell 0 0))) (at h) (ordered-at (matchedTo b hit columns i j) matched-ordered (cell 0 0) g h l (omega arith)))
 
   -- what a search for the predecessor of (i + 1, c) asks, for any column c after those that are done
   pub swept-before : (c : ℕ) → j < c → Known b (cell (suc i) c) all

@@ -8,6 +8,7 @@ use Rattle.rules.specs.declared.Cell.{Cell}
 use Rattle.rules.specs.declared.Record.{Record}
 use Rattle.rules.specs.Matches.{cell}
 use Rattle.rules.specs.Records.{pick}
+use Rattle.rules.specs.Listing.{Before}
 use Rattle.rules.proofs.LeftExtensions.{Extends}
 use Rattle.rooms.specs.Layout.{Holds}
 use Rattle.predecessors.specs.declared.Ring.{Ring}
@@ -29,9 +30,9 @@ pub record Known (b : ℕ) (c : Cell) (ws : List Record) : Type 0 where
   pub from-one : (x : Record) → List·Memᴰ x ws → 1 ≤ x .cell .column
   pub own : (x : Record) → List·Memᴰ x ws → x .cell .row ≡ c .row → x .cell .column < c .column
 
--- numbers go by row
+-- numbers go by row, then column
 abbrev pub Sorted : List Record → Type 0
-Sorted all = (g h : ℕ) → g ≤ h → h < length all → nth all g .cell .row ≤ nth all h .cell .row
+Sorted all = (g h : ℕ) → g < h → h < length all → Before (nth all g .cell) (nth all h .cell)
 
 -- the records from number tail on lie in the room
 abbrev pub InRoom : List Record → List ℕ → Ring → ℕ → Type 0

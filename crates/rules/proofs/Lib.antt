@@ -12,6 +12,7 @@ pub mod Sweeps
 pub mod Jobs
 pub mod Bounds
 pub mod Listings
+pub mod Maximal
 pub mod Strands
 pub mod Outcomes
 pub mod Theorems

@@ -49,6 +49,15 @@ keep-all {A} f [] h = refl
 keep-all {A} f (x ∷ xs) h =
     rw (T-true (f x) (h x (List·Memᴰ·head refl))) (ap {B = List A} (λ l. x ∷ l) (keep-all f xs (λ y m. h y (List·Memᴰ·tail m))))
 
+-- where the narrower test passes only what the wider one passes, the wider one before it changes nothing
+pub keep-narrower : {A : Type 0} (f g : A → Bool) (xs : List A) → ((x : A) → T (f x) → T (g x)) → keep f (keep g xs) ≡ keep f xs
+unfolding keep
+keep-narrower f g [] h = refl
+keep-narrower {A} f g (x ∷ xs) h =
+    by-test (λ (l : List A). keep f l ≡ keep f (x ∷ xs)) (g x) (x ∷ keep g xs) (keep g xs)
+    (λ _. ap (λ (r : List A). cond (f x) (x ∷ r) r) (keep-narrower f g xs h))
+    (λ n. rw (T-false (f x) (λ t. n (h x t))) (keep-narrower f g xs h))
+
 pub count-keep : {A : Type 0} (f : A → Bool) (xs : List A) → count f xs ≡ length (keep f xs)
 unfolding keep count
 count-keep f [] = refl

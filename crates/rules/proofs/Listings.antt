@@ -4,16 +4,16 @@ use mathlib.Core.Path.{_≡_, refl, subst, subst⁻¹}
 use mathlib.Core.Logic.{_⊎_, inl, inr, _↔_}
 use mathlib.Core.Bool.{Bool, not}
 use mathlib.Core.List.{List, [], _∷_, map, List·Memᴰ, List·Memᴰ·head, List·Memᴰ·tail, List·Memᴰ·not-nil, List·Memᴰ·cases-cons, Memᴰ·map, Memᴰ·of-map}
-use Prim.Native.Nat.{ℕ, _+_, _-_, _≤_}
+use Prim.Native.Nat.{ℕ, _≤_}
 use native.Mathlib.Omega.{arith}
 use lib.Dec.{T}
 use Rattle.rules.specs.declared.Settings.{Settings}
 use Rattle.rules.specs.Lists.{keep, anyOf}
 use Rattle.rules.specs.Places.{places}
-use Rattle.rules.specs.Matches.{Cell, cell, isMatch, matches}
-use Rattle.rules.specs.Chains.{Heaviest, Start, Closed}
+use Rattle.rules.specs.Matches.{Cell, isMatch, matches}
+use Rattle.rules.specs.Chains.{leftExtension, Heaviest, Start, Closed}
 use Rattle.rules.specs.Records.{Record, records}
-use Rattle.rules.specs.Listing.{beyond, closed, firstSpan, secondSpan, isListed, listing, ends, Listed, Before, Ordered}
+use Rattle.rules.specs.Listing.{closed, firstSpan, secondSpan, longEnough, isListed, listing, ends, Listed, Before, Ordered}
 use Rattle.rules.specs.Rooms.{inRun, held, Held}
 use Rattle.rules.proofs.Tests.{tests, T-and, T-leb, by-test, tested}
 use Rattle.rules.proofs.MatchList.{matches-ordered}
@@ -94,47 +94,26 @@ ends-ordered k (x ∷ xs) p o =
 
 -- ---- the listing of a job
 
--- moved on by 1 to b rows and columns
-is-beyond : (b : ℕ) (y : Cell) (p q : ℕ) → 1 ≤ p → p ≤ b → 1 ≤ q → q ≤ b → T (beyond b y (cell (y .row + p) (y .column + q)))
-unfolding beyond
-is-beyond b y p q p1 pb q1 qb = simp (beyond, tests) (omega arith)
-
-beyond-facts : (b : ℕ) (y z : Cell) → T (beyond b y z)
-    → (1 ≤ z .row - y .row) × (z .row - y .row ≤ b) × (1 ≤ z .column - y .column) × (z .column - y .column ≤ b)
-unfolding beyond
-beyond-facts b y z t = let h = simp (beyond, tests) at t in (omega arith, omega arith, omega arith, omega arith)
-
-moved : (y z : Cell) → 1 ≤ z .row - y .row → 1 ≤ z .column - y .column → z ≡ cell (y .row + (z .row - y .row)) (y .column + (z .column - y .column))
-moved y z h g =
-    let er : z .row ≡ y .row + (z .row - y .row) = omega arith in
-    let ec : z .column ≡ y .column + (z .column - y .column) = omega arith in
-    λ i. cell (er i) (ec i)
-
 module _ (c : Settings) (s t : List ℕ) where
   -- the test for closed is the paper's
   pub closed-is : (y : Cell) → T (closed (c .b) (matches c s t) y) ↔ Closed (c .b) (isMatch c s t) y
   unfolding closed
   closed-is y = (forth, back)
     where
-      forth : T (not (anyOf (beyond (c .b) y) (matches c s t))) → Closed (c .b) (isMatch c s t) y
+      forth : T (not (anyOf (leftExtension (c .b) y) (matches c s t))) → Closed (c .b) (isMatch c s t) y
       forth u =
-          let none : ¬ T (anyOf (beyond (c .b) y) (matches c s t)) = simp tests at u in
-          record {
-            no-match = λ p q p1 pb q1 qb h.
-                none (any-has (beyond (c .b) y) (matches c s t) (cell (y .row + p) (y .column + q)) (match-has c s t _ h) (is-beyond (c .b) y p q p1 pb q1 qb));
-          }
+          let none : ¬ T (anyOf (leftExtension (c .b) y) (matches c s t)) = simp tests at u in
+          record { no-match = λ z h e. none (any-has (leftExtension (c .b) y) (matches c s t) z (match-has c s t z h) e) }
 
-      back : Closed (c .b) (isMatch c s t) y → T (not (anyOf (beyond (c .b) y) (matches c s t)))
+      back : Closed (c .b) (isMatch c s t) y → T (not (anyOf (leftExtension (c .b) y) (matches c s t)))
       back h =
-          simp tests (λ u. let (z, m, g) = any-some (beyond (c .b) y) (matches c s t) u in
-          let f = beyond-facts (c .b) y z g in
-          h .no-match (z .row - y .row) (z .column - y .column) (f .0) (f .1) (f .2) (f .3)
-          (subst (λ (w : Cell). T (isMatch c s t w)) (moved y z (f .0) (f .2)) (match-in c s t z m)))
+          simp tests (λ u. let (z, m, e) = any-some (leftExtension (c .b) y) (matches c s t) u in
+          h .no-match z (match-in c s t z m) e)
 
   is-listed : (x : Record) → T (isListed c (matches c s t) x)
       ↔ (Closed (c .b) (isMatch c s t) (x .cell) × (c .m ≤ firstSpan (c .k) (x .start) (x .cell)) × (c .m ≤ secondSpan (c .k) (x .start) (x .cell)))
-  unfolding isListed
-  is-listed x = (λ u. let h = simp (T-and, T-leb) at u in (closed-is (x .cell) .0 (h .0 .0), h .0 .1, h .1), λ h. simp (T-and, T-leb) ((closed-is (x .cell) .1 (h .0), h .1), h .2))
+  unfolding isListed longEnough
+  is-listed x = (λ u. let h = simp (T-and, T-leb) at u in (closed-is (x .cell) .0 (h .0), h .1 .0, h .1 .1), λ h. simp (T-and, T-leb) (closed-is (x .cell) .1 (h .0), (h .1, h .2)))
 
   -- the record of a match is the one with its heaviest weight and its start
   record-is : (y p : Cell) (w : ℕ) → T (isMatch c s t y) → Heaviest (c .b) (isMatch c s t) y w → Start (c .b) (isMatch c s t) y p

@@ -4,17 +4,19 @@ use mathlib.Core.Path.{_≡_, sym, _∙_}
 use mathlib.Core.Logic.{_↔_}
 use mathlib.Core.List.{List, [], _++_, map, List·Memᴰ}
 use Prim.Native.Nat.{ℕ, _+_, _-_, _*_, _≤_, _<_, min}
+use native.Mathlib.Omega.{arith}
 use lib.Dec.{T}
 use Rattle.rules.specs.declared.Settings.{Settings}
-use Rattle.rules.specs.Lists.{text}
+use Rattle.rules.specs.Lists.{text, keep}
 use Rattle.rules.specs.Letters.{codeOf, complement, reverseComplement, badPlace}
 use Rattle.rules.specs.Places.{kmerAt, packed}
-use Rattle.rules.specs.Matches.{Cell, isMatch, matches}
+use Rattle.rules.specs.Matches.{Cell, cell, isMatch, matches}
 use mathlib.Core.Option.{some}
 use Rattle.rules.specs.Codes.{codes, codeMatch}
-use Rattle.rules.specs.Chains.{Chain, Heaviest, Predecessor, Start}
+use Rattle.rules.specs.Chains.{Chain, Heaviest, Predecessor, Start, Closed, Through, RightMaximal}
 use Rattle.rules.specs.Records.{Record, records}
-use Rattle.rules.specs.Listing.{listing, ends, Listed, Ordered}
+use Rattle.rules.specs.Listing.{isListed, listing, ends, Listed, Ordered}
+use Rattle.rules.specs.Earlier.{listingEarlier}
 use Rattle.rules.specs.Rooms.{held, Held, matchTotal, workNeed, linkTotal}
 use Rattle.rules.specs.Strands.{onStrand, strands, turned, strandEntries, entries, ReadsTurned, Within, largerNeed}
 use Rattle.rules.proofs.Letters.{complement-table, complement-twice}
@@ -22,6 +24,7 @@ use Rattle.rules.proofs.Kmers.{kmer-of, packed-same, match-by-code}
 use Rattle.rules.proofs.Starts.{heaviest-one, predecessor-one, start-one}
 use Rattle.rules.proofs.Jobs.{match-in, match-has, record-cells, weight-heaviest, start-right, start-of-heaviest}
 use Rattle.rules.proofs.Listings.{listing-in, listing-has, listing-ordered, held-in, held-has, held-ordered}
+use Rattle.rules.proofs.Maximal.{closed-offsets, closed-maximal, every-carried, listing-left}
 use Rattle.rules.proofs.Bounds.{W-bound, links-bound, no-matches, no-links}
 use Rattle.rules.proofs.Strands.{turned-twice, place-twice, reads-turned, reverse-within, need-of-each, forward, both, forward-first}
 
@@ -70,6 +73,31 @@ module _ (c : Settings) (first second : List ℕ) where
 
   pub one-start : (y p q : Cell) → Start (c .b) (isMatch c first second) y p → Start (c .b) (isMatch c first second) y q → p ≡ q
   one-start y p q = start-one
+
+  -- ---- closed matches
+
+  -- CR 2: "offsets 0 to b each, not both 0"
+  pub closed-by-offsets : (y : Cell) → Closed (c .b) (isMatch c first second) y
+      ↔ ((p q : ℕ) → p ≤ c .b → q ≤ c .b → 1 ≤ p + q → ¬ T (isMatch c first second (cell (y .row + p) (y .column + q))))
+  closed-by-offsets = closed-offsets (c .b) (isMatch c first second)
+
+  -- a match is closed exactly where no chain through it goes on
+  pub closed-is-right-maximal : (y : Cell) → T (isMatch c first second y) → Closed (c .b) (isMatch c first second) y ↔ RightMaximal (c .b) (isMatch c first second) y
+  closed-is-right-maximal = closed-maximal (c .b) (isMatch c first second)
+
+  -- and every chain can be carried on to a closed match: one from the same match goes through its last, weighs no less and ends there
+  pub every-chain-carried : (p y : Cell) (n : ℕ) → Chain (c .b) (isMatch c first second) p y n
+      → (z : Cell) × (m : ℕ) × (h : Chain (c .b) (isMatch c first second) p z m) × Through y h × (n ≤ m) × Closed (c .b) (isMatch c first second) z
+  every-chain-carried = every-carried c first second
+
+  -- what is closed was closed by document 01's rule, "there is no match (i + x, j + y) with x and y each from 1 to b"
+  pub closed-was-closed : (y : Cell) → Closed (c .b) (isMatch c first second) y
+      → (p q : ℕ) → 1 ≤ p → p ≤ c .b → 1 ≤ q → q ≤ c .b → ¬ T (isMatch c first second (cell (y .row + p) (y .column + q)))
+  closed-was-closed y h p q p1 pb q1 qb = closed-by-offsets y .0 h p q pb qb (omega arith)
+
+  -- so the listing only shrinks: it is the earlier one, in its order, without what is no longer closed
+  pub listing-shrinks : listing c first second ≡ keep (isListed c (matches c first second)) (listingEarlier c first second)
+  listing-shrinks = listing-left c first second
 
   -- ---- the listing
 

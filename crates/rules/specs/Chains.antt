@@ -1,6 +1,7 @@
--- Document 01, "Places, matches and chains": left extension, chain, predecessor and start, in its own words. They are said of any
--- gap bound b and any test `hit` of which cells are matches. Assumes nothing.
+-- Document 01, "Places, matches and chains": left extension, chain, predecessor and start, in its own words, and CR 2's closed match. They are said of
+-- any gap bound b and any test `hit` of which cells are matches. Assumes nothing.
 use mathlib.Core.Path.{_≡_}
+use mathlib.Core.Logic.{_⊎_}
 use mathlib.Core.Bool.{Bool, _&&_, not}
 use Prim.Native.Nat.{ℕ, suc, _+_, _≤_, _<_}
 use lib.Dec.{T, leb, eqb}
@@ -43,6 +44,15 @@ pub data Start (b : ℕ) (hit : Cell → Bool) : Cell → Cell → Type 0 where
   itself : {c : Cell} → ((y : Cell) → T (hit y) → ¬ T (leftExtension b y c)) → Start b hit c c
   through : {c x p : Cell} → Predecessor b hit c x → Start b hit x p → Start b hit c p
 
--- "Closed match: there is no match (i + x, j + y) with x and y each from 1 to b"
+-- CR 2: "a match is closed when it is a left extension of no match: offsets 0 to b each, not both 0"
 pub record Closed (b : ℕ) (hit : Cell → Bool) (c : Cell) : Type 0 where
-  pub no-match : (x y : ℕ) → 1 ≤ x → x ≤ b → 1 ≤ y → y ≤ b → ¬ T (hit (record { row = c .row + x; column = c .column + y }))
+  pub no-match : (y : Cell) → T (hit y) → ¬ T (leftExtension b c y)
+
+-- the chain goes through c: c is one of its matches
+abbrev pub Through : {b : ℕ} {hit : Cell → Bool} {p y : Cell} {n : ℕ} → Cell → Chain b hit p y n → Type 0
+Through {p = p} c (one t) = c ≡ p
+Through c (more {y = y} h e t) = (c ≡ y) ⊎ Through c h
+
+-- right-maximal: no chain through the match goes on, that is, each of them ends there
+pub record RightMaximal (b : ℕ) (hit : Cell → Bool) (c : Cell) : Type 0 where
+  pub ends-here : (p y : Cell) (n : ℕ) (h : Chain b hit p y n) → Through c h → y ≡ c

@@ -1,4 +1,5 @@
--- Document 01, "Examples in the registry", with CR 1's sixth number, and what those leave open: whole answers and whole rooms. Assumes nothing.
+-- Document 01, "Examples in the registry", with CR 1's sixth number and the entries that CR 2 leaves of P5 and P8, and what those leave open: whole
+-- answers and whole rooms. Assumes nothing.
 use mathlib.Core.Path.{_≡_, refl}
 use mathlib.Core.List.{List, [], _∷_, map}
 use Prim.Native.Nat.{ℕ}
@@ -61,7 +62,7 @@ refused number sequence detail work list = record { answer = refusal number sequ
 abbrev none : ℕ → List ℕ
 none n = replicate n 0
 
--- P1 to P11, in order
+-- P1 to P11, in order; CR 2: "P5 lists only its last entry; P8 only 1 5 1 2 2; P7 and P9 stand"
 abbrev pub table : List Row
 unfolding text thenZeros
 table =
@@ -74,14 +75,12 @@ table =
     ∷ row (compare-job (set 2 2 8 0) (text "ACCGT") (text "ACGGT") (room 15) (room 100))
     (refused 7 0 2 (none 15) (none 100))
     ∷ row (compare-job (set 1 1 6 0) (text "AAA") (text "AAA") (room 100) (room 100))
-    (done 5 9 6 16 (none 100)
-    (thenZeros
-    (1 ∷ 1 ∷ 1 ∷ 3 ∷ 3 ∷ 0 ∷ 1 ∷ 2 ∷ 1 ∷ 3 ∷ 4 ∷ 0 ∷ 1 ∷ 3 ∷ 1 ∷ 1 ∷ 3 ∷ 0 ∷ 1 ∷ 3 ∷ 1 ∷ 2 ∷ 4 ∷ 0 ∷ 1 ∷ 3 ∷ 1 ∷ 3 ∷ 5 ∷ 0 ∷ []) 100))
+    (done 1 9 6 16 (none 100) (thenZeros (1 ∷ 3 ∷ 1 ∷ 3 ∷ 5 ∷ 0 ∷ []) 100))
     ∷ row (compare-job (set 1 1 5 0) (text "AAA") (text "AAA") (room 100) (room 100)) (done 0 0 0 0 (none 100) (none 100))
     ∷ row (compare-job (set 1 1 6 3) (text "AAA") (text "AAA") (room 100) (room 100))
     (done 1 9 6 16 (none 100) (thenZeros (1 ∷ 3 ∷ 1 ∷ 3 ∷ 5 ∷ 0 ∷ []) 100))
     ∷ row (compare-job (set 2 3 3 0) (text "ACNAC") (text "AC") (room 100) (room 100))
-    (done 2 2 2 1 (none 100) (thenZeros (1 ∷ 2 ∷ 1 ∷ 2 ∷ 1 ∷ 0 ∷ 1 ∷ 5 ∷ 1 ∷ 2 ∷ 2 ∷ 0 ∷ []) 100))
+    (done 1 2 2 1 (none 100) (thenZeros (1 ∷ 5 ∷ 1 ∷ 2 ∷ 2 ∷ 0 ∷ []) 100))
     ∷ row (compare-job (set 2 2 3 0) (text "ACNAC") (text "AC") (room 100) (room 100))
     (done 2 2 1 0 (none 100) (thenZeros (1 ∷ 2 ∷ 1 ∷ 2 ∷ 1 ∷ 0 ∷ 4 ∷ 5 ∷ 1 ∷ 2 ∷ 1 ∷ 0 ∷ []) 100))
     ∷ row (compare-job (set 1 1 1 0) [] [] [] []) (done 0 0 0 0 [] [])
@@ -113,9 +112,10 @@ open-rows =
     -- ends are compared as numbers: 9 before 10
     ∷ row (compare-job (set 1 1 2 0) (text "NNNNNNNNAC") (text "CNA") (room 16) (room 12))
     (done 2 2 2 0 (none 16) (9 ∷ 9 ∷ 3 ∷ 3 ∷ 1 ∷ 0 ∷ 10 ∷ 10 ∷ 1 ∷ 1 ∷ 1 ∷ 0 ∷ []))
-    -- both spans count: at m 2 an entry with a span of 1 is not listed
-    ∷ row (compare-job (set 1 1 6 2) (text "AAA") (text "AAA") (room 48) (room 18))
-    (done 3 9 6 16 (none 48) (1 ∷ 2 ∷ 1 ∷ 3 ∷ 4 ∷ 0 ∷ 1 ∷ 3 ∷ 1 ∷ 2 ∷ 4 ∷ 0 ∷ 1 ∷ 3 ∷ 1 ∷ 3 ∷ 5 ∷ 0 ∷ []))
+    -- both spans count: with spans of 5 and 2, of 2 and 5, an entry is not listed at m 3
+    ∷ row (compare-job (set 2 3 3 3) (text "ACNAC") (text "AC") (room 16) (room 6)) (done 0 2 2 1 (none 16) (none 6))
+    ∷ row (compare-job (set 2 3 3 3) (text "AC") (text "ACNAC") (room 16) (room 6)) (done 0 2 2 1 (none 16) (none 6))
+    ∷ row (compare-job (set 2 3 3 2) (text "AC") (text "ACNAC") (room 16) (room 6)) (done 1 2 2 1 (none 16) (1 ∷ 2 ∷ 1 ∷ 5 ∷ 2 ∷ 0 ∷ []))
     -- the stopped sweep after row 0, and after the last row
     ∷ row (stopped-sweep (set 2 2 8 0) (text "ACCGT") (text "ACGGT") (room 17) 0) (done 0 3 2 2 (none 17) [])
     ∷ row (stopped-sweep (set 2 2 8 0) (text "ACCGT") (text "ACGGT") (room 17) 4)
@@ -125,6 +125,23 @@ open-rows =
 pub open-examples : map (λ (r : Row). outcome (r .asked)) open-rows ≡ map (λ (r : Row). r .given) open-rows
 unfolding outcome text thenZeros
 open-examples = refl
+
+-- CR 2: a match goes on in its own column (P8, P9) and in its own row, by b and not by b + 1
+abbrev pub closed-rows : List Row
+unfolding text thenZeros
+closed-rows =
+    row (compare-job (set 2 3 3 0) (text "AC") (text "ACNAC") (room 16) (room 12))
+    (done 1 2 2 1 (none 16) (thenZeros (1 ∷ 2 ∷ 1 ∷ 5 ∷ 2 ∷ 0 ∷ []) 12))
+    ∷ row (compare-job (set 2 2 3 0) (text "AC") (text "ACNAC") (room 16) (room 12))
+    (done 2 2 2 0 (none 16) (1 ∷ 2 ∷ 1 ∷ 2 ∷ 1 ∷ 0 ∷ 1 ∷ 2 ∷ 4 ∷ 5 ∷ 1 ∷ 0 ∷ []))
+    -- (3,1) and (1,3) end two chains, since neither goes on to the other: one lies before the other in each sequence
+    ∷ row (compare-job (set 1 4 2 0) (text "ANC") (text "CNA") (room 16) (room 12))
+    (done 2 2 2 0 (none 16) (1 ∷ 1 ∷ 3 ∷ 3 ∷ 1 ∷ 0 ∷ 3 ∷ 3 ∷ 1 ∷ 1 ∷ 1 ∷ 0 ∷ []))
+    ∷ []
+
+pub closed-examples : map (λ (r : Row). outcome (r .asked)) closed-rows ≡ map (λ (r : Row). r .given) closed-rows
+unfolding outcome text thenZeros
+closed-examples = refl
 
 -- CR 1: both strands
 abbrev pub strand-rows : List Row
@@ -143,9 +160,9 @@ strand-rows =
     (done 2 2 1 0 (none 8) (1 ∷ 2 ∷ 1 ∷ 2 ∷ 1 ∷ 0 ∷ 1 ∷ 2 ∷ 3 ∷ 4 ∷ 1 ∷ 1 ∷ []))
     -- the larger W is that of the reverse strand, or of the forward
     ∷ row (compare-job (both 1 1 8 4) (text "AAT") (text "TTT") (room 48) (room 6)) (done 0 9 6 11 (none 48) (none 6))
-    ∷ row (compare-job (both 1 1 8 0) (text "AAT") (text "TTT") (room 47) (room 42)) (refused 7 0 6 (none 47) (none 42))
-    ∷ row (compare-job (both 1 1 8 0) (text "TTA") (text "TTT") (room 47) (room 42)) (refused 7 0 6 (none 47) (none 42))
-    ∷ row (compare-job (both 1 1 8 0) (text "AAT") (text "TTT") (room 48) (room 41)) (refused 8 0 7 (none 48) (none 41))
+    ∷ row (compare-job (both 1 1 8 0) (text "AAT") (text "TTT") (room 47) (room 12)) (refused 7 0 6 (none 47) (none 12))
+    ∷ row (compare-job (both 1 1 8 0) (text "TTA") (text "TTT") (room 47) (room 12)) (refused 7 0 6 (none 47) (none 12))
+    ∷ row (compare-job (both 1 1 8 0) (text "AAT") (text "TTT") (room 48) (room 11)) (refused 8 0 2 (none 48) (none 11))
     -- a reverse sweep that is stopped has its own tallies, and its records are not turned back
     ∷ row (stopped-sweep (both 2 2 8 0) (text "ACCG") (text "NCGGT") (room 24) 3)
     (done 3 3 3 3 (1 ∷ 1 ∷ 1 ∷ 1 ∷ 1 ∷ 0 ∷ 0 ∷ 0 ∷ 2 ∷ 2 ∷ 2 ∷ 1 ∷ 1 ∷ 0 ∷ 0 ∷ 0 ∷ 3 ∷ 3 ∷ 3 ∷ 1 ∷ 1 ∷ 0 ∷ 0 ∷ 0 ∷ []) [])
@@ -183,8 +200,8 @@ refusal-rows =
     ∷ row (compare-job (set 31 1024 1024 16384) (text "a") (replicate 16385 0) (room 3) (room 2)) (refused 5 2 0 (room 3) (room 2))
     ∷ row (compare-job (set 1 1 6 0) (text "AaA") (text "AAU") (room 3) (room 2)) (refused 6 1 2 (room 3) (room 2))
     ∷ row (compare-job (set 1 1 6 0) (text "AAA") (text "AAU") (room 3) (room 2)) (refused 6 2 3 (room 3) (room 2))
-    ∷ row (compare-job (set 1 1 6 0) (text "AAA") (text "AAA") (room 47) (room 29)) (refused 7 0 6 (none 47) (none 29))
-    ∷ row (compare-job (set 1 1 6 0) (text "AAA") (text "AAA") (room 48) (room 29)) (refused 8 0 5 (none 48) (none 29))
+    ∷ row (compare-job (set 1 1 6 0) (text "AAA") (text "AAA") (room 47) (room 5)) (refused 7 0 6 (none 47) (none 5))
+    ∷ row (compare-job (set 1 1 6 0) (text "AAA") (text "AAA") (room 48) (room 5)) (refused 8 0 1 (none 48) (none 5))
     ∷ row (stopped-sweep (set 0 1 6 0) (text "AAA") (text "AAA") (room 47) 4) (refused 1 0 0 (room 47) [])
     ∷ row (stopped-sweep (set 1 1 6 16385) (text "AAA") (text "AAA") (room 47) 4) (refused 4 0 0 (room 47) [])
     ∷ row (stopped-sweep (no-strand 1 1 6 0) (text "AAA") (text "AAU") (room 47) 4) (refused 9 0 0 (room 47) [])

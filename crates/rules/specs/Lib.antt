@@ -1,4 +1,4 @@
--- What a reader must believe, in the order and the words of document 01, with document 02's CR 1 where it belongs.
+-- What a reader must believe, in the order and the words of document 01, with document 02's CR 1 and CR 2 where they belong.
 pub mod Lists
 pub mod Letters
 pub mod Places
@@ -7,6 +7,7 @@ pub mod Codes
 pub mod Chains
 pub mod Records
 pub mod Listing
+pub mod Earlier
 pub mod Rooms
 pub mod Strands
 pub mod Answers

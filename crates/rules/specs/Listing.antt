@@ -1,24 +1,19 @@
--- Document 01, "Places, matches and chains": closed matches, spans, the listing of one sweep and its entries. Assumes nothing.
+-- Document 01, "Places, matches and chains": closed matches (as CR 2 has them), spans, the listing of one sweep and its entries. Assumes nothing.
 use mathlib.Core.Path.{_≡_}
 use mathlib.Core.Bool.{Bool, _&&_, not}
 use mathlib.Core.List.{List, [], _∷_, List·Memᴰ}
 use Prim.Native.Nat.{ℕ, _+_, _-_, _≤_, _<_}
-use lib.Dec.{T, leb, ltb}
+use lib.Dec.{T, leb}
 use Rattle.rules.specs.declared.Settings.{Settings}
 use Rattle.rules.specs.Lists.{keep, anyOf}
 use Rattle.rules.specs.Matches.{Cell, isMatch, matches}
-use Rattle.rules.specs.Chains.{Heaviest, Start, Closed}
+use Rattle.rules.specs.Chains.{leftExtension, Heaviest, Start, Closed}
 use Rattle.rules.specs.Records.{Record, records}
 
--- y is c moved on by 1 to b rows and 1 to b columns
-unfoldable pub beyond : ℕ → Cell → Cell → Bool
-beyond b c y =
-    ltb (c .row) (y .row) && leb (y .row) (c .row + b) && ltb (c .column) (y .column) && leb (y .column) (c .column + b)
-
--- "Closed match: there is no match (i + x, j + y) with x and y each from 1 to b"
+-- CR 2: "a match is closed when it is a left extension of no match"
 unfoldable pub closed : ℕ → List Cell → Cell → Bool
-unfolding anyOf beyond
-closed b all c = not (anyOf (beyond b c) all)
+unfolding anyOf leftExtension
+closed b all c = not (anyOf (leftExtension b c) all)
 
 -- "Spans of a closed match (i, j) started at (p, q): i + k - p bases and j + k - q bases."
 unfoldable pub firstSpan : ℕ → Cell → Cell → ℕ
@@ -27,11 +22,14 @@ firstSpan k start end = end .row + k - start .row
 unfoldable pub secondSpan : ℕ → Cell → Cell → ℕ
 secondSpan k start end = end .column + k - start .column
 
+unfoldable pub longEnough : Settings → Record → Bool
+unfolding firstSpan secondSpan
+longEnough c x = leb (c .m) (firstSpan (c .k) (x .start) (x .cell)) && leb (c .m) (secondSpan (c .k) (x .start) (x .cell))
+
 -- "The listing holds every closed match whose two spans are both at least m, by end row, then end column."
 unfoldable pub isListed : Settings → List Cell → Record → Bool
-unfolding closed firstSpan secondSpan
-isListed c all x =
-    closed (c .b) all (x .cell) && leb (c .m) (firstSpan (c .k) (x .start) (x .cell)) && leb (c .m) (secondSpan (c .k) (x .start) (x .cell))
+unfolding closed longEnough
+isListed c all x = closed (c .b) all (x .cell) && longEnough c x
 
 unfoldable pub listing : Settings → List ℕ → List ℕ → List Record
 unfolding keep isListed matches records

@@ -219,8 +219,9 @@ fn the_help_page() {
 fn no_clause_is_said_so() {
     let folder = examples("none");
     let too_short = folder.done("-k 2 -b 2 -a 8 -m 6 p1-first.fa p1-second.fa");
-    assert!(too_short
-        .ends_with("\n  No clause: no chain spans 6 bases in both sequences, on either strand.\n"));
+    assert!(too_short.ends_with(
+        "\n  No clause: none would span 6 bases in both sequences, on either strand.\n"
+    ));
     let too_frequent = folder.done("-k 1 -b 1 -a 5 -m 0 p5.txt p5.txt");
     assert!(too_frequent.ends_with(
         "\n  No clause: the two have no k-mer in common that is used, on either strand.\n"
@@ -239,12 +240,13 @@ fn sequences_of_no_letters_are_compared() {
 
 #[test]
 fn more_clauses_than_the_list_room_first_lent() {
-    let folder = Folder::new("many-clauses", &[("a.txt", &[b'A'; 500])]);
-    let output = folder.done("-k 1 -b 1 -a 1000 -m 0 --tsv a.txt a.txt");
-    assert_eq!(output.lines().count(), 1_000);
+    // An N after each A: with b 1 no match reaches another, and all are listed.
+    let folder = Folder::new("many-clauses", &[("an.txt", &b"AN".repeat(25))]);
+    let output = folder.done("-k 1 -b 1 -a 1000 -m 0 --tsv an.txt an.txt");
+    assert_eq!(output.lines().count(), 1 + 625);
     assert_eq!(
         output.lines().last(),
-        Some("a.txt\ta.txt\t999\t1\t500\t1\t500\t999\tforward")
+        Some("an.txt\tan.txt\t625\t49\t49\t49\t49\t1\tforward")
     );
 }
 

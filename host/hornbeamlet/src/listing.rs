@@ -15,8 +15,9 @@ pub enum Strand {
     Reverse,
 }
 
-/// One entry: a closed match's chain, from its start to its last letters. On
-/// either strand the places are those of the sequences as they stand.
+/// One entry: the chain of a closed match, which goes no further, from its start
+/// to its last letters. On either strand the places are those of the sequences
+/// as they stand.
 #[derive(Clone, Copy, Debug, PartialEq, Eq)]
 pub struct Entry {
     /// First place in the first sequence.

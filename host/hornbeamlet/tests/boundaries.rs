@@ -58,13 +58,52 @@ fn work_room_just_enough_and_one_number_less() {
     });
 }
 
+/// So many As in each sequence, an N after each. With b 1 no match reaches
+/// another, so all are closed.
+fn apart(rows: usize, columns: usize) -> [Vec<u8>; 2] {
+    [rows, columns].map(|count| b"AN".repeat(count))
+}
+
 #[test]
-fn list_room_just_enough_and_one_number_less() {
+fn list_room_just_enough_and_too_short() {
+    let [first, second] = apart(25, 40);
+    let [rows, columns] = [50, 80].map(|length| (1..length).step_by(2));
+    let places = rows.flat_map(|i| columns.clone().map(move |j| (i, j)));
+    let entries: Vec<u32> = places.flat_map(|(i, j)| [i, i, j, j, 1, 0]).collect();
     with_library(|library| {
-        let p5 = settings(1, 1, 6, 0);
-        let run = |list| compared(library, p5, [b"AAA", b"AAA"], [48, list]);
-        assert_eq!(run(30).0, answer([0; 3], [5, 9, 6, 16]));
-        assert_eq!(run(29), (refused(8, 0, 5), vec![0; 48], vec![0; 29]));
+        let one_letter = settings(1, 1, 65, 0);
+        let run = |list| compared(library, one_letter, [&first, &second], [320, list]);
+        let done = answer([0; 3], [1_000, 1_000, 40, 0]);
+        assert_eq!(run(6_000), (done, vec![0; 320], entries));
+        for short in [5_999, 5_994, 0] {
+            let refused = refused(8, 0, 1_000);
+            assert_eq!(run(short), (refused, vec![0; 320], vec![0; short]));
+        }
+    });
+}
+
+/// P5, P8, and P8 with its sequences exchanged, on one strand and on the other:
+/// all matches but one go on in their row or their column.
+#[test]
+fn what_goes_on_in_a_row_or_a_column_is_not_listed() {
+    let p5 = (settings(1, 1, 6, 0), [1, 9, 6, 16]);
+    lists_one(p5, [b"AAA", b"AAA"], [1, 3, 1, 3, 5, 0]);
+    lists_one(p5, [b"AAA", b"TTT"], [1, 3, 1, 3, 5, 1]);
+    let p8 = (settings(2, 3, 3, 0), [1, 2, 2, 1]);
+    lists_one(p8, [b"ACNAC", b"AC"], [1, 5, 1, 2, 2, 0]);
+    lists_one(p8, [b"ACNAC", b"GT"], [1, 5, 1, 2, 2, 1]);
+    lists_one(p8, [b"AC", b"ACNAC"], [1, 2, 1, 5, 2, 0]);
+    lists_one(p8, [b"AC", b"GTNGT"], [1, 2, 1, 5, 2, 1]);
+}
+
+/// One entry over both strands, for which six numbers of list room are enough
+/// and five are not.
+fn lists_one((forward, tallies): (Settings, [u64; 4]), sequences: [&[u8]; 2], entry: [u32; 6]) {
+    with_library(|library| {
+        let run = |list| compared(library, on_strand(BOTH, forward), sequences, [48, list]);
+        let done = answer([0; 3], tallies);
+        assert_eq!(run(6), (done, vec![0; 48], entry.to_vec()));
+        assert_eq!(run(5), (refused(8, 0, 1), vec![0; 48], vec![0; 5]));
     });
 }
 
@@ -85,26 +124,26 @@ fn rooms_for_both_strands_of_p1() {
     });
 }
 
-/// TTT turned round is AAA: P5's entries, their places in the second sequence
-/// counted from its other end, and their order as it was.
+/// GTNGT turned round is ACNAC: four matches out of each other's reach, their
+/// places in the second sequence counted from its other end, and their order as
+/// it was.
 #[test]
 fn reverse_entries_are_turned_back_in_their_order() {
     with_library(|library| {
-        let p5 = on_strand(BOTH, settings(1, 1, 6, 0));
-        let (done, _, list) = compared(library, p5, [b"AAA", b"TTT"], [48, 30]);
+        let forward = settings(2, 2, 4, 0);
+        let run = |settings| compared(library, settings, [b"ACNAC", b"GTNGT"], [16, 24]);
         let entries = [
-            [1, 1, 1, 3, 3, 1],
-            [1, 2, 1, 3, 4, 1],
-            [1, 3, 3, 3, 3, 1],
-            [1, 3, 2, 3, 4, 1],
-            [1, 3, 1, 3, 5, 1],
+            [1, 2, 4, 5, 1, 1],
+            [1, 2, 1, 2, 1, 1],
+            [4, 5, 4, 5, 1, 1],
+            [4, 5, 1, 2, 1, 1],
         ];
+        let (done, _, list) = run(on_strand(BOTH, forward));
         assert_eq!(
             (done, list),
-            (answer([0; 3], [5, 9, 6, 16]), entries.concat())
+            (answer([0; 3], [4, 4, 2, 0]), entries.concat())
         );
-        let (_, _, none) = compared(library, settings(1, 1, 6, 0), [b"AAA", b"TTT"], [0, 6]);
-        assert_eq!(none, [0; 6]);
+        assert_eq!(run(forward).2, [0; 24]);
     });
 }
 
@@ -223,10 +262,13 @@ fn the_listing_lends_what_is_needed() {
         };
         let listing = library.list(on_strand(BOTH, P1), b"ACCGT", b"ACGGT");
         assert_eq!(listing.unwrap().entries, [entry, reverse]);
-        // More entries than the first try has room for: with b 1, k 1 and one
-        // letter every match of the last row and of the last column is closed.
-        let many = library.list(settings(1, 1, 1_000, 0), &[b'A'; 500], &[b'A'; 500]);
-        assert_eq!(many.unwrap().entries.len(), 999);
+        // As many entries as the first try has room for, and one more.
+        let listed = |[first, second]: [Vec<u8>; 2]| {
+            let listing = library.list(settings(1, 1, 1_000, 0), &first, &second);
+            listing.unwrap().entries.len()
+        };
+        assert_eq!(listed(apart(16, 32)), 512);
+        assert_eq!(listed(apart(19, 27)), 513);
         let refusal = Refusal {
             number: 6,
             sequence: 2,

@@ -100,12 +100,14 @@ fn chained(row: u32, column: u32, predecessor: Option<&Match>) -> Match {
     }
 }
 
-/// "Closed match: there is no match (i + x, j + y) with x and y each from 1 to
-/// b".
+/// "From now on a match is closed when it is a left extension of no match:
+/// offsets 0 to b each, not both 0."
 pub fn is_closed(rows: &Rows, row: u32, column: u32, b: u32) -> bool {
     let last = (rows.len() - 1).min((row + b) as usize);
-    let mut after = rows[row as usize + 1..=last].iter();
-    !after.any(|columns| any_between(columns, column + 1, column + b))
+    let (its_own, below) = (&rows[row as usize], &rows[row as usize + 1..=last]);
+    let goes_on_along = any_between(its_own, column + 1, column + b);
+    let goes_on_below = |columns: &Vec<u32>| any_between(columns, column, column + b);
+    !goes_on_along && !below.iter().any(goes_on_below)
 }
 
 fn any_between(columns: &[u32], low: u32, high: u32) -> bool {
@@ -147,12 +149,27 @@ mod tests {
         assert_eq!(swept.links, 16);
     }
 
+    /// The only match besides (1, 1) lies so far below and to the right of it.
+    fn is_closed_before(down: usize, along: u32, b: u32) -> bool {
+        let mut rows = vec![vec![]; down + 2];
+        rows[1].push(1);
+        rows[1 + down].push(1 + along);
+        is_closed(&rows, 1, 1, b)
+    }
+
     #[test]
-    fn a_match_in_the_same_row_or_column_does_not_open() {
-        let rows = vec![vec![], vec![1, 2], vec![1]];
-        assert!(is_closed(&rows, 1, 1, 1));
-        let rows = vec![vec![], vec![1], vec![], vec![4]];
-        assert!(is_closed(&rows, 1, 1, 2));
-        assert!(!is_closed(&rows, 1, 1, 3));
+    fn a_match_that_goes_on_is_not_closed() {
+        for (down, along) in [(0, 3), (3, 0), (1, 3), (3, 1), (3, 3)] {
+            assert!(!is_closed_before(down, along, 3), "{down} {along}");
+            assert!(is_closed_before(down, along, 2), "{down} {along}");
+        }
+    }
+
+    #[test]
+    fn what_lies_to_the_left_or_above_does_not_matter() {
+        let rows = vec![vec![], vec![1, 2, 3], vec![1, 2], vec![1]];
+        for (row, column) in [(1, 3), (2, 2), (3, 1)] {
+            assert!(is_closed(&rows, row, column, 2), "{row} {column}");
+        }
     }
 }

@@ -188,7 +188,13 @@ impl Job {
         unbeaten.map_or(of, |it| it.start)
     }
 
-    fn is_closed(&self, matches: &[Place], (row, column): Place) -> bool {
+    fn is_closed(&self, matches: &[Place], at: Place) -> bool {
+        !matches.iter().any(|&of| self.is_left_extension(at, of))
+    }
+
+    /// The rule that stood before, "there is no match (i + x, j + y) with x and y
+    /// each from 1 to b".
+    fn was_closed(&self, matches: &[Place], (row, column): Place) -> bool {
         let steps = 1..=self.b();
         let mut pairs = steps
             .clone()
@@ -439,4 +445,22 @@ fn longer_jobs_agree_with_the_definitions_over_all_pairs() {
         let strands = Strand::both(&job).map(|it| it.find(false));
         check(seed, &job, &strands);
     }
+}
+
+/// The rule of change request 2 closes no match that was open before, so the
+/// listing only shrinks.
+#[test]
+fn what_is_closed_was_closed_before() {
+    let (mut kept, mut gone) = (0, 0);
+    for seed in 20_001..=21_000 {
+        let job = random_job(seed, 12);
+        let matches = job.matches();
+        for &at in &matches {
+            let (was, is) = (job.was_closed(&matches, at), job.is_closed(&matches, at));
+            assert!(was || !is, "seed {seed}: {at:?}");
+            kept += u32::from(is);
+            gone += u32::from(was && !is);
+        }
+    }
+    assert!(kept > 1_000 && gone > 1_000, "{kept} kept, {gone} gone");
 }

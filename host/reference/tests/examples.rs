@@ -99,6 +99,12 @@ fn p1() -> Example<'static> {
     example(settings(2, 2, 8, 0), b"ACCGT", b"ACGGT")
 }
 
+fn p2() -> Example<'static> {
+    example(settings(2, 1, 8, 0), b"ACCGT", b"ACGGT")
+}
+
+const P2_ENTRIES: [[u32; 5]; 3] = [[1, 2, 1, 2, 1], [3, 4, 2, 3, 1], [4, 5, 4, 5, 1]];
+
 fn p5() -> Example<'static> {
     example(settings(1, 1, 6, 0), b"AAA", b"AAA")
 }
@@ -111,10 +117,7 @@ fn example_p1() {
 
 #[test]
 fn example_p2() {
-    let mut p2 = p1();
-    p2.settings.b = 1;
-    let entries = [[1, 2, 1, 2, 1], [3, 4, 2, 3, 1], [4, 5, 4, 5, 1]];
-    p2.gives(done([3, 3, 2, 0]), &entries);
+    p2().gives(done([3, 3, 2, 0]), &P2_ENTRIES);
 }
 
 #[test]
@@ -133,14 +136,7 @@ fn example_p4() {
 
 #[test]
 fn example_p5() {
-    let entries = [
-        [1, 1, 1, 3, 3],
-        [1, 2, 1, 3, 4],
-        [1, 3, 1, 1, 3],
-        [1, 3, 1, 2, 4],
-        [1, 3, 1, 3, 5],
-    ];
-    p5().gives(done([5, 9, 6, 16]), &entries);
+    p5().gives(done([1, 9, 6, 16]), &[[1, 3, 1, 3, 5]]);
 }
 
 #[test]
@@ -160,7 +156,7 @@ fn example_p7() {
 #[test]
 fn example_p8() {
     let p8 = example(settings(2, 3, 3, 0), b"ACNAC", b"AC");
-    p8.gives(done([2, 2, 2, 1]), &[[1, 2, 1, 2, 1], [1, 5, 1, 2, 2]]);
+    p8.gives(done([1, 2, 2, 1]), &[[1, 5, 1, 2, 2]]);
 }
 
 #[test]
@@ -201,12 +197,27 @@ fn the_stopped_sweep_at_its_other_rows() {
 }
 
 #[test]
-fn a_list_room_too_small_by_one_number() {
-    let mut short = p5();
-    short.rooms.1 = 29;
-    short.gives(refused(8, 0, 5), &[]);
-    short.rooms.0 = 47;
-    short.gives(refused(7, 0, 6), &[]);
+fn list_rooms_just_enough_and_too_small() {
+    let mut lent = p2();
+    lent.rooms = (16, 18);
+    lent.gives(done([3, 3, 2, 0]), &P2_ENTRIES);
+    for numbers in [17, 12, 0] {
+        lent.rooms = (16, numbers);
+        lent.gives(refused(8, 0, 3), &[]);
+        lent.rooms = (15, numbers);
+        lent.gives(refused(7, 0, 2), &[]);
+    }
+}
+
+#[test]
+fn only_what_is_listed_needs_list_room() {
+    // Five matches of P5 have none below and to the right; four of them go on in
+    // the last row or the last column.
+    let mut lent = p5();
+    lent.rooms.1 = 6;
+    lent.gives(done([1, 9, 6, 16]), &[[1, 3, 1, 3, 5]]);
+    lent.rooms.1 = 5;
+    lent.gives(refused(8, 0, 1), &[]);
 }
 
 #[test]
@@ -258,7 +269,7 @@ fn the_tie_between_columns_decides_the_start() {
     let tie = example(settings(1, 2, 5, 0), b"ACG", b"GTAG");
     tie.gives(done([2, 3, 3, 1]), &[[3, 3, 1, 1, 1], [1, 3, 3, 4, 2]]);
     let tie = example(settings(1, 3, 5, 0), b"ACG", b"GTAG");
-    tie.gives(done([2, 3, 3, 2]), &[[3, 3, 1, 1, 1], [3, 3, 1, 4, 2]]);
+    tie.gives(done([1, 3, 3, 2]), &[[3, 3, 1, 4, 2]]);
 }
 
 /// A strand that is refused; all else is accepted.
@@ -321,15 +332,12 @@ fn reverse_places_are_turned_back_by_the_letters_of_the_second() {
 #[test]
 fn reverse_entries_keep_the_order_of_their_sweep() {
     // TTT turned round is AAA, and the reverse sweep is P5's.
-    let entries = [
-        [1, 1, 1, 3, 3],
-        [1, 2, 1, 3, 4],
-        [1, 3, 3, 3, 3],
-        [1, 3, 2, 3, 4],
-        [1, 3, 1, 3, 5],
-    ];
     let turned = example(strand_1(p5().settings), b"AAA", b"TTT");
-    turned.gives_both(done([5, 9, 6, 16]), &[], &entries);
+    turned.gives_both(done([1, 9, 6, 16]), &[], &[[1, 3, 1, 3, 5]]);
+    // GTNGT turned round is ACNAC: two matches of one row, as far apart as P9's.
+    let turned = example(strand_1(settings(2, 2, 3, 0)), b"AC", b"GTNGT");
+    let entries = [[1, 2, 4, 5, 1], [1, 2, 1, 2, 1]];
+    turned.gives_both(done([2, 2, 2, 0]), &[], &entries);
     // ACCGT turned round is P2's second sequence.
     let entries = [[1, 2, 4, 5, 1], [3, 4, 3, 4, 1], [4, 5, 1, 2, 1]];
     let mut p2 = example(strand_1(settings(2, 1, 8, 0)), b"ACCGT", b"ACCGT");
@@ -342,10 +350,10 @@ fn reverse_entries_keep_the_order_of_their_sweep() {
 fn each_strand_has_totals_of_its_own() {
     // AAAT turned round is ATTT: six As in both together forward, four reverse.
     let with_cap = |a| example(strand_1(settings(1, 1, a, 0)), b"AAA", b"AAAT");
-    let reverse = [[1, 1, 4, 4, 1], [1, 2, 4, 4, 2], [1, 3, 4, 4, 3]];
-    with_cap(5).gives_both(done([3, 3, 2, 2]), &[], &reverse);
+    let (forward, reverse) = ([[1, 3, 1, 3, 5]], [[1, 3, 4, 4, 3]]);
+    with_cap(6).gives_both(done([2, 12, 6, 18]), &forward, &reverse);
+    with_cap(5).gives_both(done([1, 3, 2, 2]), &[], &reverse);
     with_cap(3).gives(done([0; 4]), &[]);
-    assert_eq!(with_cap(6).run().0, done([8, 12, 6, 18]));
 }
 
 #[test]

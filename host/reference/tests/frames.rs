@@ -300,27 +300,35 @@ fn a_sequence_passing_16_384_letters_gives_26() {
 #[test]
 fn the_rooms_that_chain_lends() {
     let job = |a: u8| line_of(&[1, 7, 1, 4, 0, 0, a, 0, 0]);
-    let (rows, columns) = (|count| letters_a(2, count), |count| letters_a(3, count));
+    let rows = |count| piece(2, &vec![A; count]);
+    let columns = piece(3, &[A; 32]);
     // 16 rows of 32 matches are 512 records, which 4,096 numbers just hold.
-    let fits = chain(format!("{}{}{}{END}", job(48), rows(16), columns(32)).as_bytes());
+    let fits = chain(format!("{}{}{columns}{END}", job(48), rows(16)).as_bytes());
     assert!(fits.starts_with(b"100A"));
-    let over = format!("{}{}{}{END}", job(52), rows(18), columns(32));
+    let over = format!("{}{}{columns}{END}", job(52), rows(18));
     gives(&over, &line_of(&[0x1F, 6, 7, 0, 0, 0, 2, 64]));
-    // With b 1 the last row and the last column are closed. 2,000 numbers of
-    // list room hold 333 entries of six.
+    // With b 1 and an N between letters no match reaches another, so all are
+    // closed. 9 rows of 37 are 333, and 2,000 numbers of list room hold just so
+    // many entries of six; a C at the end of both is one match more.
     let job = line_of(&[1, 7, 1, 0, 1, 4, 0, 0, 0]);
-    let with_rows = |count| {
-        let columns = columns(128) + &columns(128);
-        format!("{job}{}{columns}{END}", rows(count))
+    let apart = |end: &[u8]| {
+        let rows = piece(2, &[&[A, N].repeat(9), end].concat());
+        let columns = piece(3, &[&[A, N].repeat(37), end].concat());
+        format!("{job}{rows}{columns}{END}")
     };
-    let fits = chain(with_rows(78).as_bytes());
-    assert_eq!(fits.split(|&byte| byte == b'\n').count(), 333 + 2);
-    gives(&with_rows(79), &line_of(&[0x1F, 6, 8, 0, 0, 0, 1, 78]));
+    let fits = chain(apart(&[]).as_bytes());
+    assert_eq!(fits.len(), 333 * ENTRY_LINE.len() + DONE_LINE.len());
+    gives(&apart(&[C]), &line_of(&[0x1F, 6, 8, 0, 0, 0, 1, 78]));
 }
 
-/// A piece of so many As.
-fn letters_a(kind: u8, count: usize) -> String {
+/// The codes of three letters.
+const A: u8 = 1;
+const C: u8 = 2;
+const N: u8 = 15;
+
+/// A piece of the letters of these codes.
+fn piece(kind: u8, codes: &[u8]) -> String {
     let mut lent = [0; 135];
-    let (_, length) = write_piece(kind, &vec![1; count], &mut lent);
+    let (_, length) = write_piece(kind, codes, &mut lent);
     String::from_utf8(lent[..length].to_vec()).unwrap()
 }

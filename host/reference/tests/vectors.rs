@@ -32,5 +32,5 @@ fn every_input_of_chain_gives_its_whole_output() {
         assert!(output == expected, "{}", input.display());
         run += 1;
     }
-    assert_eq!(run, 388);
+    assert_eq!(run, 486);
 }

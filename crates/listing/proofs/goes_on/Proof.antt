@@ -1,52 +1,30 @@
--- `listing::goes_on` meets its contract: outside the columns and before record t there is nothing later, and else the row decides. Assumes nothing.
+-- `listing::goes_on` meets its contract: outside the columns there is no record, and else the latest decides. Assumes nothing.
 use mathlib.Core.Path.{sym}
 use native.Mathlib.Omega.{arith}
-use Rattle.listing.proofs.Closing.{later-none, later-outside, later-row}
+use Rattle.listing.specs.Leaving.{laterIn}
+use Rattle.listing.proofs.Closing.{later-outside}
 use borrow.Author.Needs.{needs}
 use Rattle.listing.proofs.goes_on.Statement.{statement}
 use Rattle.listing.proofs.goes_on.Tie as tie
 
 returns : tie.Need-returns
-returns c = let a = c .before .before .before .args in sym (later-outside (a .room .now) (a .latest .now) (a .ring) (a .t) (a .row) (a .q) (c .if1 .taken))
+returns c = let a = c .before .args in sym (later-outside (a .latest .now) (a .t) (a .q) (c .if1 .taken))
 
-mul-s : tie.Need-mul-s
-mul-s c = search needs
+add-result : tie.Need-add-result
+add-result c = search needs
 
-shared-slice-read-s : tie.Need-shared-slice-read-s
-shared-slice-read-s c = search needs
+mul-result : tie.Need-mul-result
+mul-result c = search needs
 
-cast-s : tie.Need-cast-s
-cast-s c = omega (arith, c .shared-slice-known3 .given (c .before .before .before .before .args .q))
+shared-slice-read-result : tie.Need-shared-slice-read-result
+shared-slice-read-result c = search needs
 
-add-if2 : tie.Need-add-if2
-add-if2 c = search needs
+cast-result : tie.Need-cast-result
+cast-result c = omega (arith, c .shared-slice-known .given (c .before .before .args .q))
 
 returns-2 : tie.Need-returns-2
-returns-2 c = let a = c .before .before .before .before .before .args in sym (later-none (a .room .now) (a .latest .now) (a .ring) (a .t) (a .row) (a .q) (c .if2 .taken))
-
-slot-requires : tie.Need-slot-requires
-slot-requires c κs = search needs
-
-record-at-requires : tie.Need-record-at-requires
-record-at-requires c κs = search needs
-
-returns-3 : tie.Need-returns-3
-returns-3 c =
-    let r = c .before in
-    let s = r .before in
-    let a = s .before .before .before .before .before .before .args in
-    later-row (a .room .now) (a .latest .now) (a .ring) (a .t) (a .row) (a .q) (r .record-at .result) (s .slot .result) (s .before .if2 .left) (s .slot .ensures .0) (r .record-at .ensures)
+unfolding laterIn
+returns-2 c = search needs
 
 pub goes-on-spec : {M : Type 1} → statement M
-goes-on-spec =
-    tie.close
-    (tie.spec
-    returns
-    mul-s
-    shared-slice-read-s
-    cast-s
-    add-if2
-    returns-2
-    slot-requires
-    record-at-requires
-    returns-3)
+goes-on-spec = tie.close (tie.spec returns add-result mul-result shared-slice-read-result cast-result returns-2)

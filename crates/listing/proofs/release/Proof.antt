@@ -60,7 +60,7 @@ list-record-requires c κs =
     let w = l .before in
     let s = w .before .before .before .before in
     let v = l .loop in
-    (s .pre .fits, (s .pre .room-for, (omega (arith, s .pre .few, q .before .loop-test .taken), (omega (arith, s .pre .few, v .inv .few, q .before .loop-test .taken), s .pre .some-base))))
+    (omega (arith, s .pre .few, q .before .loop-test .taken), (omega (arith, s .pre .few, v .inv .few, q .before .loop-test .taken), s .pre .some-base))
 
 add-t : tie.Need-add-t Inv-loop μ-loop
 add-t c =

@@ -49,7 +49,7 @@ fn done(settings: Settings, listing: &Listing) -> String {
         }
         Answer { listed: 0, .. } => {
             let least = grouped(u64::from(settings.m));
-            format!("  No clause: no chain spans {least} bases in both sequences, {searched}.\n")
+            format!("  No clause: none would span {least} bases in both sequences, {searched}.\n")
         }
         _ => {
             let numbered = (1..).zip(&listing.entries);
