@@ -134,7 +134,7 @@ closed-rows =
     (done 1 2 2 1 (none 16) (thenZeros (1 ∷ 2 ∷ 1 ∷ 5 ∷ 2 ∷ 0 ∷ []) 12))
     ∷ row (compare-job (set 2 2 3 0) (text "AC") (text "ACNAC") (room 16) (room 12))
     (done 2 2 2 0 (none 16) (1 ∷ 2 ∷ 1 ∷ 2 ∷ 1 ∷ 0 ∷ 1 ∷ 2 ∷ 4 ∷ 5 ∷ 1 ∷ 0 ∷ []))
-    -- (3,1) and (1,3) end two chains, since neither goes on to the other: one lies before the other in each sequence
+    -- (1,3) does not go on to (3,1), which lies beyond it in one sequence and before it in the other
     ∷ row (compare-job (set 1 4 2 0) (text "ANC") (text "CNA") (room 16) (room 12))
     (done 2 2 2 0 (none 16) (1 ∷ 1 ∷ 3 ∷ 3 ∷ 1 ∷ 0 ∷ 3 ∷ 3 ∷ 1 ∷ 1 ∷ 1 ∷ 0 ∷ []))
     ∷ []

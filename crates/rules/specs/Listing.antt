@@ -22,6 +22,7 @@ firstSpan k start end = end .row + k - start .row
 unfoldable pub secondSpan : ℕ → Cell → Cell → ℕ
 secondSpan k start end = end .column + k - start .column
 
+-- "two spans are both at least m"
 unfoldable pub longEnough : Settings → Record → Bool
 unfolding firstSpan secondSpan
 longEnough c x = leb (c .m) (firstSpan (c .k) (x .start) (x .cell)) && leb (c .m) (secondSpan (c .k) (x .start) (x .cell))
