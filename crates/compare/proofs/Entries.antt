@@ -6,7 +6,7 @@ use Prim.Native.Nat.{ℕ, _+_, _-_, _≤_}
 use native.Mathlib.Omega.{arith}
 use borrow.Author.Tests.{eq-eqb, ne-eqb}
 use lib.Dec.{eqb}
-use lib.ListN.{length, getD, take, replicate, length-replicate, getD-replicate, List·getD-eq-default}
+use lib.ListN.{length, take, replicate, length-replicate}
 use lib.Seq.{length-take-le}
 use Rattle.rules.specs.declared.Settings.{Settings}
 use Rattle.rules.specs.declared.Answer.{Answer}
@@ -19,6 +19,7 @@ use Rattle.rules.specs.Listing.{listing}
 use Rattle.rules.specs.Rooms.{held, largestRun, pairs, matchTotal, workNeed, linkTotal}
 use Rattle.rules.specs.Strands.{onStrand, strandNumbers, strandEntries, entries, matchSum, largerNeed, linkSum}
 use Rattle.rules.specs.Answers.{Outcome, checked, afterChecks, comparing, compared, stoppedSweep, stopped, replied}
+use Rattle.rules.proofs.ListLaws.{zeros-at}
 use Rattle.rules.proofs.Strands.{one-strand, two-strands}
 use Rattle.rules.proofs.Tests.{Three, below, equal, above, three}
 use Rattle.matches.specs.Walks.{WalkSafe, Described}
@@ -30,14 +31,6 @@ use Rattle.strands.specs.Strands.{listingOf, entriesOf, largerOf, Walked, WalkT
 use Rattle.jobs.specs.Jobs.{runOf, comparedOf, stoppedOf, ComparesMatches, StopsMatches}
 
 -- ---- arrays of zeros
-
-zeros-at : (n q : ℕ) → getD {A = ℕ} (replicate n 0) q 0 ≡ 0
-zeros-at n q = go (three q n)
-  where
-    go : Three q n → getD {A = ℕ} (replicate n 0) q 0 ≡ 0
-    go (below h) = getD-replicate {A = ℕ} n q 0 0 h
-    go (equal h) = List·getD-eq-default {A = ℕ} (replicate n 0) 0 {n = q} (let e = length-replicate {A = ℕ} n 0 in omega arith)
-    go (above h) = List·getD-eq-default {A = ℕ} (replicate n 0) 0 {n = q} (let e = length-replicate {A = ℕ} n 0 in omega arith)
 
 pub blank : Blank (replicate 16384 0)
 blank = record { long = length-replicate {A = ℕ} 16384 0; empty = zeros-at 16384 }

@@ -14,7 +14,8 @@ use lib.Seq.{take-suc, take-add, drop-drop, getD-drop, length-take-le}
 use borrow.Author.Tests.{lt-ltb, le-ltb, le-leb, lt-leb}
 use Rattle.rules.specs.Places.{places, baseOf, allBases, kmerAt, packed, packOn}
 use Rattle.rules.specs.Codes.{kmerCode}
-use Rattle.kmers.proofs.Tests.{le-or-lt, and-true, and-false}
+use Rattle.rules.proofs.Tests.{and-false}
+use Rattle.kmers.proofs.Tests.{le-or-lt, and-true}
 use Rattle.kmers.proofs.Packing.{all-append, packed-append, packed-snoc, packed-lt}
 use Rattle.kmers.proofs.Standing.{letters-from}
 use Rattle.kmers.proofs.Codes.{code-inside}

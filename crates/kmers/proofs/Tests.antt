@@ -17,10 +17,6 @@ pub and-true : (a b : Bool) → (a && b) ≡ true → (a ≡ true) × (b ≡ tru
 and-true true b e = (refl, e)
 and-true false b e = let z : _≡_ {A = Bool} false true = e in (z, cc)
 
-pub and-false : (a : Bool) → (a && false) ≡ false
-and-false true = refl
-and-false false = refl
-
 pub and-assoc : (a b c : Bool) → (a && (b && c)) ≡ (a && b && c)
 and-assoc true b c = refl
 and-assoc false b c = refl

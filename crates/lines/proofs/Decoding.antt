@@ -8,6 +8,7 @@ use lib.Dec.{ltb, leb, eqb}
 use lib.ListN.{length, getD, drop, set, length-set, length-drop, drop-of-length-le, List·getD-append}
 use lib.Seq.{sets, drop-cons}
 use borrow.Author.Tests.{lt-ltb, le-ltb, le-leb, lt-leb, ltb-true, leb-true}
+use Rattle.rules.proofs.Tests.{and-false}
 use Rattle.lines.specs.Digits.{nibbleOf, closed, isLine, bytesIn}
 use Rattle.lines.specs.Writing.{byteSum}
 use Rattle.lines.proofs.Storing.{sets-front}
@@ -19,10 +20,6 @@ and-left false b e = e
 pub and-right : (a b : Bool) → a && b ≡ true → b ≡ true
 and-right true b e = e
 and-right false b e = cc
-
-and-false : (a : Bool) → a && false ≡ false
-and-false true = refl
-and-false false = refl
 
 -- the two bytes at i and what follows them
 two-heads : (s : List ℕ) (i : ℕ) → i + 1 < length s → drop i s ≡ getD s i 0 ∷ getD s (i + 1) 0 ∷ drop (i + 2) s

@@ -15,20 +15,13 @@ use Rattle.rules.specs.declared.Cell.{Cell}
 use Rattle.rules.specs.declared.Record.{Record}
 use Rattle.rules.specs.Lists.{anyOf}
 use Rattle.rules.specs.Chains.{leftExtension}
-use Rattle.rules.specs.Listing.{firstSpan, secondSpan, longEnough, closed, isListed, Before}
-use Rattle.rules.proofs.Tests.{tests, T-and, T-leb, tested, T-true, T-false, Three, below, equal, above, three}
-use Rattle.rules.proofs.LeftExtensions.{extend-facts, facts-extend, not-self, not-after}
+use Rattle.rules.specs.Listing.{firstSpan, secondSpan, longEnough, closed, isListed}
+use Rattle.rules.proofs.Tests.{tests, same-test, T-and, T-leb, tested, T-true, T-false, Three, below, equal, above, three}
+use Rattle.rules.proofs.LeftExtensions.{extend-facts, not-self, not-after, after-extends}
 use Rattle.rules.proofs.Listings.{any-has, any-some}
 use Rattle.predecessors.specs.declared.Ring.{Ring}
 use Rattle.predecessors.specs.Numbers.{nth}
 use Rattle.listing.specs.Leaving.{laterIn, someFrom, passes, ReleaseAsks}
-
--- two tests that say the same are equal
-same-test : (a b : Bool) → (T a → T b) → (T b → T a) → a ≡ b
-same-test true true f g = refl
-same-test true false f g = absurd (f tt)
-same-test false true f g = absurd (g tt)
-same-test false false f g = refl
 
 -- ---- one of the columns from j on
 
@@ -127,18 +120,7 @@ module _ (c : Settings) (i k : ℕ) (all : List Record) (cells : List Cell) (roo
       let r = a .rows s (omega arith) in
       let n = a .machine .kept t from here in
       any-has (leftExtension (c .b) (x .cell)) cells (nth all s .cell) (a .matches s (omega arith))
-      (follows (nth all s .cell) (a .sorted t s (omega arith) (omega arith)) (omega arith) (omega arith) (omega arith))
-    where
-      follows : (y : Cell) → Before (x .cell) y → y .row ≤ x .cell .row + c .b → x .cell .column ≤ y .column → y .column ≤ x .cell .column + c .b
-          → T (leftExtension (c .b) (x .cell) y)
-      follows y f rn cl cn =
-          facts-extend (c .b) (x .cell) y
-          (record { row-le = f .row-le; row-near = rn; column-le = cl; column-near = cn; moved = by (three (x .cell .row) (y .row)) })
-        where
-          by : Three (x .cell .row) (y .row) → x .cell .row + x .cell .column < y .row + y .column
-          by (below h) = omega arith
-          by (equal h) = omega (arith, f .column-lt h)
-          by (above h) = absurd (omega (arith, f .row-le))
+      (after-extends (c .b) (x .cell) (nth all s .cell) (a .sorted t s (omega arith) (omega arith)) (omega arith) (omega arith) (omega arith))
 
   pub closed-now : not (someFrom (laterIn latest t) (x .cell .column) (c .b + 1)) ≡ closed (c .b) cells (x .cell)
   unfolding closed

@@ -3,8 +3,8 @@ use mathlib.Core.Path.{_≡_, refl, sym, ap, _∙_}
 use mathlib.Core.Logic.{_⊎_, inl, inr}
 use mathlib.Core.Bool.{true, false, cond}
 use mathlib.Core.Option.{none, some}
-use mathlib.Core.List.{List, [], _∷_, List·Memᴰ, List·Memᴰ·head, List·Memᴰ·tail}
-use Prim.Native.Nat.{ℕ, zero, suc, _+_, _-_, _≤_, _<_}
+use mathlib.Core.List.{List, List·Memᴰ, List·Memᴰ·head, List·Memᴰ·tail}
+use Prim.Native.Nat.{ℕ, suc, _+_, _-_, _≤_, _<_}
 use native.Mathlib.Nat.{le-of-eq}
 use native.Mathlib.Omega.{arith}
 use borrow.Author.Tests.{ne-eqb, le-leb, lt-leb}
@@ -15,11 +15,12 @@ use Rattle.rules.specs.declared.Record.{Record}
 use Rattle.rules.specs.Matches.{cell}
 use Rattle.rules.specs.Records.{beats, better, pick}
 use Rattle.rules.proofs.Tests.{Three, below, equal, above, three, tested, tests}
+use Rattle.rules.proofs.ListLaws.{mem-at}
 use Rattle.rules.proofs.Ties.{Under}
 use Rattle.rooms.specs.Layout.{recordIn}
 use Rattle.rooms.proofs.Slots.{holds-record}
 use Rattle.predecessors.specs.declared.Ring.{Ring}
-use Rattle.predecessors.specs.Numbers.{slotOf, numbered, nth}
+use Rattle.predecessors.specs.Numbers.{slotOf, numbered, nothing, nth}
 use Rattle.predecessors.specs.Index.{Known, Sorted, Nearest, no-near, has-near, Ready, Found}
 use Rattle.predecessors.proofs.Walks.{Near, Walk, beyond, best-is, is-near, walk-none, walk-near, walk-skip, walk-take, walk-end, walk-stop}
 
@@ -60,9 +61,7 @@ module _ (room : List ℕ) (ring : Ring) (best s : ℕ) where
 
 -- members by number
 pub mem-nth : (all : List Record) (g : ℕ) → g < length all → List·Memᴰ (nth all g) all
-mem-nth [] g h = absurd (omega arith)
-mem-nth (x ∷ xs) zero h = List·Memᴰ·head refl
-mem-nth (x ∷ xs) (suc g) h = List·Memᴰ·tail (mem-nth xs g (omega arith))
+mem-nth all g h = mem-at all g nothing h
 
 pub nth-mem : (all : List Record) (x : Record) → List·Memᴰ x all → (g : ℕ) × (g < length all) × (x ≡ nth all g)
 nth-mem all x (List·Memᴰ·head {x = y} {xs = ys} e) = (0, omega arith, e)

@@ -3,17 +3,18 @@ use mathlib.Core.Path.{_≡_, refl, sym, ap, subst, _∙_}
 use mathlib.Core.Logic.{_⊎_, inl, inr}
 use mathlib.Core.Bool.{Bool}
 use mathlib.Core.Option.{Option, none, some}
-use mathlib.Core.List.{List, [], _∷_, map, List·Memᴰ, List·Memᴰ·head, List·Memᴰ·tail, List·Memᴰ·not-nil, List·Memᴰ·append-cases, Memᴰ·map}
+use mathlib.Core.List.{List, [], _∷_, map, List·Memᴰ, List·Memᴰ·not-nil, List·Memᴰ·append-cases, Memᴰ·map}
 use Prim.Native.Nat.{ℕ, zero, suc, _+_, _≤_, _<_}
 use native.Mathlib.Omega.{arith}
 use native.Mathlib.Nat.{le-refl}
 use lib.Dec.{T}
-use lib.ListN.{length, getD}
+use lib.ListN.{length, getD, length-map}
 use Rattle.rules.specs.declared.Cell.{Cell}
 use Rattle.rules.specs.declared.Record.{Record}
 use Rattle.rules.specs.Matches.{cell, rowTo, matchesTo}
 use Rattle.rules.specs.Records.{pick, recordAfter, recordOf}
 use Rattle.rules.specs.Listing.{Before, Ordered}
+use Rattle.rules.proofs.ListLaws.{mem-at}
 use Rattle.rules.proofs.LeftExtensions.{extend-facts, facts-extend}
 use Rattle.rules.proofs.Weights.{heavy, Sure, pick-sure, pick-heavy, sweep-cells}
 use Rattle.rules.proofs.MatchList.{row-in, matches-in, row-ordered, matches-ordered, ordered-append}
@@ -66,12 +67,7 @@ module _ (b : ℕ) (all : List Record) (fixed : (x : Record) → List·Memᴰ x 
 ordered-at : (cs : List Cell) → Ordered cs → (d : Cell) (g h : ℕ) → g < h → h < length cs → Before (getD cs g d) (getD cs h d)
 ordered-at [] o d g h l k = absurd (omega arith)
 ordered-at (c ∷ cs) o d zero zero l k = absurd (omega arith)
-ordered-at (c ∷ cs) o d zero (suc h) l k = o .0 (getD cs h d) (mem-at cs h (omega arith))
-  where
-    mem-at : (cs : List Cell) (h : ℕ) → h < length cs → List·Memᴰ (getD cs h d) cs
-    mem-at [] h l = absurd (omega arith)
-    mem-at (c ∷ cs) zero l = List·Memᴰ·head refl
-    mem-at (c ∷ cs) (suc h) l = List·Memᴰ·tail (mem-at cs h (omega arith))
+ordered-at (c ∷ cs) o d zero (suc h) l k = o .0 (getD cs h d) (mem-at cs h d (omega arith))
 ordered-at (c ∷ cs) o d (suc g) zero l k = absurd (omega arith)
 ordered-at (c ∷ cs) o d (suc g) (suc h) l k = ordered-at cs (o .1) d g h (omega arith) (omega arith)
 
@@ -79,10 +75,6 @@ pub nth-cell : (xs : List Record) (g : ℕ) → getD (map (λ (x : Record). x .c
 nth-cell [] g = refl
 nth-cell (x ∷ xs) zero = refl
 nth-cell (x ∷ xs) (suc g) = nth-cell xs g
-
-length-cells : (xs : List Record) → length (map (λ (x : Record). x .cell) xs) ≡ length xs
-length-cells [] = refl
-length-cells (x ∷ xs) = ap suc (length-cells xs)
 
 module _ (b : ℕ) (hit : Cell → Bool) (columns : ℕ) (i j : ℕ) where
   matched-ordered : Ordered (matchedTo b hit columns i j)
@@ -132,7 +124,7 @@ module _ (b : ℕ) (hit : Cell → Bool) (columns : ℕ) (i j : ℕ) where
   pub swept-sorted : Sorted all
   swept-sorted g h l k =
       let e = ap length swept-cells in
-      let n = length-cells all in
+      let n = length-map all (λ (x : Record). x .cell) in
       let at : (t : ℕ) → getD (matchedTo b hit columns i j) t (cell 0 0) ≡ nth all t .cell = λ t. ap (λ (cs : List Cell). getD cs t (cell 0 0)) (sym swept-cells) ∙ nth-cell all t in
       subst (λ (x : Cell). Before x (nth all h .cell)) (at g)
       (subst (Before (getD (matchedTo b hit columns i j) g (cell 0 0))) (at h) (ordered-at (matchedTo b hit columns i j) matched-ordered (cell 0 0) g h l (omega arith)))

@@ -13,6 +13,7 @@ use Rattle.rules.specs.Lists.{laid, thenZeros}
 use Rattle.rules.specs.Rooms.{workHolds, listHolds}
 use Rattle.rules.specs.Strands.{entries, matchSum, largerNeed, linkSum}
 use Rattle.rules.specs.Answers.{Outcome, refusal, done, zeroed, checked, compared}
+use Rattle.rules.proofs.ListLaws.{mem-at}
 use Rattle.rules.proofs.Strands.{entry-size, entries-size}
 use Rattle.prepare.proofs.Checking.{accepted}
 use Rattle.compare.proofs.Demands.{Compared, refused, no-work-room, no-list-room, listed, demand-1}
@@ -27,7 +28,7 @@ use Rattle.replies.specs.Output.{entryOf, lineOfEntry, doneOf, refusedOf
 use Rattle.replies.specs.Entries.{entryIn, entriesIn, EntriesSafe, ListingSafe, listingLines}
 use Rattle.replies.proofs.Writing.{wrote, rest-long, line-behind, entries-length}
 use Rattle.replies.proofs.Sizes.{Small, checked-small, match-sum-few, need-few, entries-few, entry-fits}
-use Rattle.replies.proofs.ReadBack.{entry-there, entries-back, member}
+use Rattle.replies.proofs.ReadBack.{entry-there, entries-back}
 
 -- ---- one refused frame
 
@@ -181,7 +182,7 @@ module _ (c : Settings) (s t : List ℕ) where
     fits-at n h =
         let l : n < length (entries c s t) = omega (arith, count-is) in
         ap (λ (e : List ℕ). entryFits (entryOf e)) (entry-there (entries c s t) (entry-size c s t) room tail room-is n l)
-        ∙ entry-fits c s t (accepted c s t (left .pass)) (getD (entries c s t) n []) (member (entries c s t) n l)
+        ∙ entry-fits c s t (accepted c s t (left .pass)) (getD (entries c s t) n []) (mem-at (entries c s t) n [] l)
 
     tallies-fit : doneFits (doneOf x) ≡ true
     unfolding doneFits doneOf workHolds done

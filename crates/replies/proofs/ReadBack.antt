@@ -1,19 +1,13 @@
 -- The entries of a list room, read back by sixes, are those that were laid out in it: each has six numbers. Assumes nothing.
 use mathlib.Core.Path.{_≡_, refl, sym, ap, _∙_}
-use mathlib.Core.List.{List, [], _∷_, _++_, append-assoc, List·Memᴰ, List·Memᴰ·head, List·Memᴰ·tail}
+use mathlib.Core.List.{List, [], _∷_, _++_, append-assoc, List·Memᴰ}
 use Prim.Native.Nat.{ℕ, zero, suc, _+_, _*_, _≤_, _<_}
-use native.Mathlib.Nat.{not-suc-le-zero, le-of-suc-le-suc}
 use native.Mathlib.Omega.{arith}
 use lib.ListN.{length, getD, take, drop, length-append}
 use lib.Seq.{take-suc, split-at, getD-append-add, take-all}
 use Rattle.rules.specs.Lists.{laid}
-use Rattle.rules.proofs.ListLaws.{laid-append}
+use Rattle.rules.proofs.ListLaws.{mem-at, laid-append}
 use Rattle.replies.specs.Entries.{entryIn, entriesIn}
-
-pub member : (all : List (List ℕ)) (n : ℕ) → n < length all → List·Memᴰ (getD all n []) all
-member [] n h = absurd (not-suc-le-zero h)
-member (x ∷ xs) zero h = List·Memᴰ·head refl
-member (x ∷ xs) (suc n) h = List·Memᴰ·tail (member xs n (le-of-suc-le-suc h))
 
 -- six numbers, one by one
 six : (e rest : List ℕ) → length e ≡ 6
@@ -46,7 +40,7 @@ module _ (all : List (List ℕ)) (sixes : (e : List ℕ) → List·Memᴰ e all 
       let e = getD all n [] in
       ap (λ (l : List (List ℕ)). length (laid (λ entry. entry) l)) (take-suc all n [] h)
       ∙ ap length (laid-append (λ (entry : List ℕ). entry) (take n all) (e ∷ []))
-      ∙ omega (arith, length-append (laid (λ entry. entry) (take n all)) (e ++ []), length-append e [], before-size n (omega arith), sixes e (member all n h))
+      ∙ omega (arith, length-append (laid (λ entry. entry) (take n all)) (e ++ []), length-append e [], before-size n (omega arith), sixes e (mem-at all n [] h))
 
   module _ (room tail : List ℕ) (is : room ≡ laid (λ entry. entry) all ++ tail) where
     pub entry-there : (n : ℕ) → n < length all → entryIn room n ≡ getD all n []
@@ -61,7 +55,7 @@ module _ (all : List (List ℕ)) (sixes : (e : List ℕ) → List·Memᴰ e all 
         ∙ ap (λ (l : List ℕ). l ++ tail) (laid-append (λ (entry : List ℕ). entry) before (e ∷ after))
         ∙ append-assoc front (e ++ laid (λ entry. entry) after) tail
         ∙ ap (λ (l : List ℕ). front ++ l) (append-assoc e (laid (λ entry. entry) after) tail) in
-        ap (λ (l : List ℕ). entryIn l n) (is ∙ whole) ∙ entry-behind front e (laid (λ entry. entry) after ++ tail) n (before-size n (omega arith)) (sixes e (member all n h))
+        ap (λ (l : List ℕ). entryIn l n) (is ∙ whole) ∙ entry-behind front e (laid (λ entry. entry) after ++ tail) n (before-size n (omega arith)) (sixes e (mem-at all n [] h))
 
     entries-to : (n : ℕ) → n ≤ length all → entriesIn room n ≡ take n all
     unfolding entriesIn

@@ -16,7 +16,7 @@ use Rattle.rules.specs.Matches.{Cell, cell, isMatch, rowTo, matchesTo, m
 use Rattle.rules.specs.Chains.{leftExtension, one}
 use Rattle.rules.specs.Rooms.{inRun, largestRun, pairs, workNeed, linkTotal}
 use Rattle.rules.proofs.Tests.{tests, by-test, tested}
-use Rattle.rules.proofs.ListLaws.{countTo-mono, countTo-hit, countTo-some, largestTo-le, count-append, count-length, count-none, count-more, sumOf-le}
+use Rattle.rules.proofs.ListLaws.{empty, countTo-mono, countTo-hit, countTo-some, largestTo-le, count-append, count-length, count-none, count-more, sumOf-le}
 use Rattle.rules.proofs.LeftExtensions.{extend-facts, not-self}
 use Rattle.rules.proofs.MatchList.{Inside, row-in, row-has}
 use Rattle.rules.proofs.Kmers.{kmer-place, same-sym, same-self}
@@ -162,14 +162,10 @@ module _ (c : Settings) (s t : List ℕ) where
             (λ y h. let g = simp (inRun, tests) at h in (omega arith, omega arith)) (places (c .k) s),
       ))
 
--- a list with a member has a length, and one with none is empty
+-- a list with a member has a length
 member-length : {A : Type 0} {x : A} (xs : List A) → List·Memᴰ x xs → 1 ≤ length xs
 member-length xs (List·Memᴰ·head e) = omega arith
 member-length xs (List·Memᴰ·tail m) = omega arith
-
-empty : {A : Type 0} (xs : List A) → ((x : A) → List·Memᴰ x xs → ⊥) → xs ≡ []
-empty [] h = refl
-empty (x ∷ xs) h = absurd (h x (List·Memᴰ·head refl))
 
 -- ---- the link total
 

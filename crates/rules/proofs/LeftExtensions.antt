@@ -1,4 +1,4 @@
--- A left extension as facts on numbers, and that none comes from what stands at or after a match. Assumes nothing.
+-- A left extension as facts on numbers, and which matches in order are left extensions of which. Assumes nothing.
 use Prim.Native.Nat.{ℕ, _+_, _≤_, _<_}
 use native.Mathlib.Nat.{lt-of-not-le}
 use native.Mathlib.Omega.{arith}
@@ -6,7 +6,7 @@ use lib.Dec.{T}
 use Rattle.rules.specs.Matches.{Cell}
 use Rattle.rules.specs.Chains.{leftExtension}
 use Rattle.rules.specs.Listing.{Before}
-use Rattle.rules.proofs.Tests.{tests}
+use Rattle.rules.proofs.Tests.{tests, Three, below, equal, above, three}
 
 pub record Extends (b : ℕ) (x y : Cell) : Type 0 where
   pub row-le : x .row ≤ y .row
@@ -34,7 +34,17 @@ facts-extend b x y e = simp (leftExtension, tests) ((((e .row-le, e .row-near), 
 pub not-self : (b : ℕ) (c : Cell) → ¬ T (leftExtension b c c)
 not-self b c t = omega (arith, extend-facts b c c t .moved)
 
+-- a match is no left extension of what stands before it, and is one of what stands after it within b rows and b columns
 pub not-after : (b : ℕ) (c y : Cell) → Before c y → ¬ T (leftExtension b y c)
 not-after b c y h t =
     let e = extend-facts b y c t in
     omega (arith, e, h .column-lt (omega (arith, e, h .row-le)))
+
+pub after-extends : (b : ℕ) (x y : Cell) → Before x y → y .row ≤ x .row + b → x .column ≤ y .column → y .column ≤ x .column + b → T (leftExtension b x y)
+after-extends b x y f near right reach =
+    facts-extend b x y (record { row-le = f .row-le; row-near = near; column-le = right; column-near = reach; moved = go (three (x .row) (y .row)) })
+  where
+    go : Three (x .row) (y .row) → x .row + x .column < y .row + y .column
+    go (below h) = omega arith
+    go (equal h) = omega (arith, f .column-lt h)
+    go (above h) = absurd (omega (arith, f .row-le))

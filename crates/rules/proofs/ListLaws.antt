@@ -7,10 +7,27 @@ use Prim.Native.Nat.{ℕ, zero, suc, _+_, _*_, _≤_, _<_, zero-le, max}
 use native.Mathlib.Nat.{add-zero, le-trans, le-of-suc-le-suc, not-suc-le-zero}
 use native.Mathlib.Omega.{arith}
 use lib.Dec.{T, eqb}
-use lib.ListN.{length, getD, take, drop, length-append, take-append-drop, List·getD-append}
+use lib.ListN.{length, getD, take, drop, replicate, length-append, take-append-drop, List·getD-append}
 use lib.Seq.{getD-append-add}
 use Rattle.rules.specs.Lists.{placeFrom, keep, count, sumOf, countTo, largestTo, largestOf, laid}
 use Rattle.rules.proofs.Tests.{tests, by-test, tested, to-suc, T-true, T-false}
+
+-- a list that has no member
+pub empty : {A : Type 0} (xs : List A) → ((x : A) → List·Memᴰ x xs → ⊥) → xs ≡ []
+empty [] h = refl
+empty (x ∷ xs) h = absurd (h x (List·Memᴰ·head refl))
+
+-- what stands at a place is a member
+pub mem-at : {A : Type 0} (xs : List A) (g : ℕ) (d : A) → g < length xs → List·Memᴰ (getD xs g d) xs
+mem-at [] g d h = absurd (not-suc-le-zero h)
+mem-at (x ∷ xs) zero d h = List·Memᴰ·head refl
+mem-at (x ∷ xs) (suc g) d h = List·Memᴰ·tail (mem-at xs g d (le-of-suc-le-suc h))
+
+-- zeros are 0 everywhere, and beyond their end too
+pub zeros-at : (n q : ℕ) → getD {A = ℕ} (replicate n 0) q 0 ≡ 0
+zeros-at zero q = refl
+zeros-at (suc n) zero = refl
+zeros-at (suc n) (suc q) = zeros-at n q
 
 -- what a search in a list finds: nothing, or the place of x
 pub data Placed (n missing x : ℕ) (ys : List ℕ) (r : ℕ) : Type 0 where

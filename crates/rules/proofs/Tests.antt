@@ -55,6 +55,17 @@ pub T-false : (t : Bool) → ¬ T t → t ≡ false
 T-false true h = absurd (h tt)
 T-false false h = refl
 
+-- two tests that say the same are equal
+pub same-test : (s t : Bool) → (T s → T t) → (T t → T s) → s ≡ t
+same-test true true f g = refl
+same-test true false f g = absurd (f tt)
+same-test false true f g = absurd (g tt)
+same-test false false f g = refl
+
+pub and-false : (t : Bool) → t && false ≡ false
+and-false true = refl
+and-false false = refl
+
 -- below, equal or above
 pub data Three (m n : ℕ) : Type 0 where
   below : m < n → Three m n

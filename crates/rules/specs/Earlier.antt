@@ -25,15 +25,20 @@ unfoldable pub listingEarlier : Settings → List ℕ → List ℕ → List Reco
 unfolding keep closedEarlier longEnough matches records
 listingEarlier c first second = keep (λ x. closedEarlier (c .b) (matches c first second) (x .cell) && longEnough c x) (records c first second)
 
--- "Annex readers get five clauses for AAA against AAA where one carries the rest."
-abbrev ends-of : List Record → List Cell
-ends-of = map (λ (x : Record). x .cell)
+-- P5's settings
+abbrev p5 : Settings
+p5 = record { k = 1; b = 1; a = 6; m = 0; strand = 0 }
 
-pub five-clauses : ends-of (listingEarlier (record { k = 1; b = 1; a = 6; m = 0; strand = 0 }) (text "AAA") (text "AAA"))
+-- the matches that are listed
+abbrev cells : List Record → List Cell
+cells = map (λ (x : Record). x .cell)
+
+-- "Annex readers get five clauses for AAA against AAA where one carries the rest."
+pub five-clauses : cells (listingEarlier p5 (text "AAA") (text "AAA"))
     ≡ cell 1 3 ∷ cell 2 3 ∷ cell 3 1 ∷ cell 3 2 ∷ cell 3 3 ∷ []
 unfolding listingEarlier text
 five-clauses = refl
 
-pub one-carries-the-rest : ends-of (listing (record { k = 1; b = 1; a = 6; m = 0; strand = 0 }) (text "AAA") (text "AAA")) ≡ cell 3 3 ∷ []
+pub one-carries-the-rest : cells (listing p5 (text "AAA") (text "AAA")) ≡ cell 3 3 ∷ []
 unfolding listing text
 one-carries-the-rest = refl

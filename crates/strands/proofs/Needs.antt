@@ -1,7 +1,7 @@
 -- Where W is 0 there is no match, since a match is in the run of its own row. Assumes nothing.
-use mathlib.Core.Path.{_≡_, refl, subst}
+use mathlib.Core.Path.{_≡_, subst}
 use mathlib.Core.Bool.{Bool}
-use mathlib.Core.List.{List, [], _∷_, List·Memᴰ, List·Memᴰ·head, List·Memᴰ·tail}
+use mathlib.Core.List.{List, [], List·Memᴰ, List·Memᴰ·head, List·Memᴰ·tail}
 use Prim.Native.Nat.{ℕ, _+_, _≤_}
 use native.Mathlib.Omega.{arith}
 use lib.Dec.{T}
@@ -10,7 +10,7 @@ use Rattle.rules.specs.Lists.{count}
 use Rattle.rules.specs.Matches.{matchesTo}
 use Rattle.rules.specs.Rooms.{inRun, largestRun}
 use Rattle.rules.proofs.Tests.{tests, by-test}
-use Rattle.rules.proofs.ListLaws.{largestTo-ge}
+use Rattle.rules.proofs.ListLaws.{empty, largestTo-ge}
 use Rattle.rules.proofs.MatchList.{matches-in}
 
 count-some : {A : Type 0} (f : A → Bool) (xs : List A) (x : A) → List·Memᴰ x xs → T (f x) → 1 ≤ count f xs
@@ -18,10 +18,6 @@ unfolding count
 count-some {A} f xs x (List·Memᴰ·head {x = y} {xs = ys} e) t =
     by-test (λ (n : ℕ). 1 ≤ count f ys + n) (f y) 1 0 (λ _. omega arith) (λ k. absurd (k (subst (λ (z : A). T (f z)) e t)))
 count-some f xs x (List·Memᴰ·tail {x = y} {xs = ys} m) t = let h = count-some f ys x m t in omega arith
-
-empty : {A : Type 0} (xs : List A) → ((x : A) → List·Memᴰ x xs → ⊥) → xs ≡ []
-empty [] h = refl
-empty (x ∷ xs) h = absurd (h x (List·Memᴰ·head refl))
 
 pub none-needed : (b : ℕ) (hit : Cell → Bool) (columns rows : ℕ) → largestRun b (matchesTo hit columns rows) rows ≡ 0 → matchesTo hit columns rows ≡ []
 unfolding largestRun inRun

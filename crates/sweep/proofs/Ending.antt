@@ -1,12 +1,12 @@
 -- What stands at the end of a sweep: every record released and the listing whole, or the last row's run from the front of the room. Assumes nothing.
 use mathlib.Core.Path.{_≡_, refl, sym, ap, subst, _∙_}
 use mathlib.Core.Bool.{Bool}
-use mathlib.Core.List.{List, [], _∷_, _++_, map, List·Memᴰ, List·Memᴰ·head, List·Memᴰ·tail}
-use Prim.Native.Nat.{ℕ, zero, suc, _+_, _-_, _*_, _/_, _%_, _≤_, _<_}
+use mathlib.Core.List.{List, [], _++_, List·Memᴰ}
+use Prim.Native.Nat.{ℕ, zero, _+_, _-_, _*_, _/_, _%_, _≤_, _<_}
 use native.Mathlib.Omega.{arith}
 use native.Mathlib.Nat.{zero-add, mod-eq-of-lt, mod-add-mod}
 use lib.Dec.{T}
-use lib.ListN.{length, getD, take, drop, replicate, length-append, length-drop, length-replicate, getD-replicate, List·getD-append, List·getD-eq-default}
+use lib.ListN.{length, getD, take, drop, replicate, length-map, length-append, length-drop, length-replicate, List·getD-append}
 use lib.Seq.{ext-getD, getD-take, getD-drop, take-all, length-take-le, getD-append-add}
 use Rattle.rules.specs.declared.Settings.{Settings}
 use Rattle.rules.specs.declared.Cell.{Cell}
@@ -16,7 +16,7 @@ use Rattle.rules.specs.Matches.{cell, matchesTo}
 use Rattle.rules.specs.Records.{recordsFrom}
 use Rattle.rules.specs.Rooms.{recordNumbers, inRun}
 use Rattle.rules.proofs.Tests.{tests, Three, below, equal, above, three}
-use Rattle.rules.proofs.ListLaws.{keep-rest, laid-length, laid-at}
+use Rattle.rules.proofs.ListLaws.{zeros-at, mem-at, keep-rest, laid-length, laid-at}
 use Rattle.rules.proofs.MatchList.{matches-in}
 use Rattle.rules.proofs.Sweeps.{sweptTo, swept-all, matches-split}
 use Rattle.predecessors.specs.declared.Ring.{Ring}
@@ -33,14 +33,6 @@ use Rattle.sweep.proofs.Parts.{old-row}
 use Rattle.sweep.proofs.Sweeping.{release-asks, cells-of}
 
 -- no column has a record at first
-zeros-at : (n q : ℕ) → getD {A = ℕ} (replicate n 0) q 0 ≡ 0
-zeros-at n q = go (three q n)
-  where
-    go : Three q n → getD {A = ℕ} (replicate n 0) q 0 ≡ 0
-    go (below h) = getD-replicate {A = ℕ} n q 0 0 h
-    go (equal h) = List·getD-eq-default {A = ℕ} (replicate n 0) 0 (let e = length-replicate {A = ℕ} n 0 in omega arith)
-    go (above h) = List·getD-eq-default {A = ℕ} (replicate n 0) 0 (let e = length-replicate {A = ℕ} n 0 in omega arith)
-
 pub none-latest : NoneLatest (replicate 16385 0)
 none-latest = record { wide = length-replicate {A = ℕ} 16385 0; empty = zeros-at 16385 }
 
@@ -83,15 +75,6 @@ record-size : (x : Record) → length (recordNumbers x) ≡ 8
 unfolding recordNumbers
 record-size x = refl
 
-mem-get : (xs : List Cell) (g : ℕ) (y : Cell) → g < length xs → List·Memᴰ (getD xs g y) xs
-mem-get [] g y h = absurd (omega arith)
-mem-get (x ∷ xs) zero y h = List·Memᴰ·head refl
-mem-get (x ∷ xs) (suc g) y h = List·Memᴰ·tail (mem-get xs g y (omega arith))
-
-length-cells : (xs : List Record) → length (map (λ (x : Record). x .cell) xs) ≡ length xs
-length-cells [] = refl
-length-cells (x ∷ xs) = ap suc (length-cells xs)
-
 module _ (c : Settings) (hit : Cell → Bool) (columns rows : ℕ) (ring : Ring) (narrow : columns ≤ 16384) (tall : rows ≤ 16384) (short : c .k ≤ 31)
     (room latest : List ℕ) (tail : ℕ) (m : Machine (c .b) rows (sweptTo (c .b) hit columns rows 0) room latest ring tail) where
   abbrev all : List Record
@@ -104,7 +87,7 @@ module _ (c : Settings) (hit : Cell → Bool) (columns rows : ℕ) (ring : Ring)
   cell-at g = ap (λ (l : List Cell). getD l g (cell 0 0)) (sym (cells-of c hit columns rows ring narrow tall short rows)) ∙ nth-cell all g
 
   count-all : length (matchesTo hit columns rows) ≡ length all
-  count-all = ap length (sym (cells-of c hit columns rows ring narrow tall short rows)) ∙ length-cells all
+  count-all = ap length (sym (cells-of c hit columns rows ring narrow tall short rows)) ∙ length-map all (λ (x : Record). x .cell)
 
   -- as many are released as there are matches in the rows before the run
   tail-is : tail ≡ length (matchesTo hit columns old)
@@ -129,7 +112,7 @@ module _ (c : Settings) (hit : Cell → Bool) (columns rows : ℕ) (ring : Ring)
           in-front : (g : ℕ) → g < length front → (1 ≤ nth all g .cell .row) × (nth all g .cell .row ≤ old)
           in-front g l =
               let e = ap (λ (y : Cell). y .row) (sym (split g) ∙ List·getD-append front later (cell 0 0) g l) in
-              let i = matches-in hit columns old (getD front g (cell 0 0)) (mem-get front g (cell 0 0) l) in
+              let i = matches-in hit columns old (getD front g (cell 0 0)) (mem-at front g (cell 0 0) l) in
               (omega (arith, i .row-from), omega (arith, i .row-to))
 
           in-later : (g : ℕ) → length front ≤ g → g < length all → old < nth all g .cell .row
@@ -137,7 +120,7 @@ module _ (c : Settings) (hit : Cell → Bool) (columns rows : ℕ) (ring : Ring)
               let k : length front + (g - length front) ≡ g = omega arith in
               let z = length-append front later in
               let e = ap (λ (y : Cell). y .row) (sym (split g) ∙ ap (λ (q : ℕ). getD (front ++ later) q (cell 0 0)) (sym k) ∙ getD-append-add front later (g - length front) (cell 0 0)) in
-              let o = sp .2 (getD later (g - length front) (cell 0 0)) (mem-get later (g - length front) (cell 0 0) (omega (arith, lengths))) in
+              let o = sp .2 (getD later (g - length front) (cell 0 0)) (mem-at later (g - length front) (cell 0 0) (omega (arith, lengths))) in
               omega arith
 
           by : Three tail (length front) → tail ≡ length front

@@ -12,10 +12,10 @@ use lib.ListN.{length, getD, set, length-set, replicate, length-replicate, getD-
 use lib.Seq.{getD-set-same, getD-set-other}
 use Rattle.rules.specs.declared.Cell.{Cell}
 use Rattle.rules.specs.Lists.{count}
-use Rattle.rules.proofs.Tests.{tests, Three, below, equal, above, three, T-true, T-false}
+use Rattle.rules.proofs.Tests.{same-test, tests, Three, below, equal, above, three, T-true, T-false}
 use Rattle.rules.proofs.ListLaws.{count-none}
 use Rattle.tally.specs.Columns.{inColumn, ColumnCounts, sumFrom}
-use Rattle.tally.proofs.Counting.{same-test, count-two, count-snoc}
+use Rattle.tally.proofs.Counting.{count-two, count-snoc}
 
 -- ---- one match
 

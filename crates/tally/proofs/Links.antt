@@ -15,7 +15,7 @@ use Rattle.rules.specs.Matches.{cell, rowTo, matchesTo}
 use Rattle.rules.specs.Chains.{leftExtension}
 use Rattle.rules.specs.Listing.{Before}
 use Rattle.rules.specs.Rooms.{pairs}
-use Rattle.rules.proofs.Tests.{tests}
+use Rattle.rules.proofs.Tests.{same-test, tests}
 use Rattle.rules.proofs.ListLaws.{count-length}
 use Rattle.rules.proofs.LeftExtensions.{extend-facts, facts-extend}
 use Rattle.rules.proofs.MatchList.{row-in, matches-in}
@@ -24,7 +24,7 @@ use Rattle.matches.specs.Walks.{NextMatch, RowWalk, NextsSafe, Described}
 use Rattle.tally.specs.Tallies.{Linked}
 use Rattle.tally.specs.Columns.{inColumn, ColumnCounts, sumFrom, Released, RowAdded}
 use Rattle.tally.proofs.Walks.{walk-step, walk-end}
-use Rattle.tally.proofs.Counting.{same-test, count-same}
+use Rattle.tally.proofs.Counting.{count-same}
 use Rattle.tally.proofs.MatchedRows.{rows-from, matched-start, matched-step, matched-end, matched-count, matched-short}
 use Rattle.tally.proofs.Pairs.{pairs-snoc, pairs-few}
 use Rattle.tally.proofs.ColumnSums.{counts-more, counts-none, inColumns, sum-counts}

@@ -1,9 +1,9 @@
 //! The library against the reference on random jobs: every answer, and both
 //! rooms whole, lent full of other numbers and at every size around the limits.
 //!
-//! HORNBEAMLET_JOBS and HORNBEAMLET_LONG_JOBS set how many jobs are run,
-//! HORNBEAMLET_SEED the seed of the first. A failure prints the seed of its job
-//! and the question, which `reference call` answers too.
+//! HORNBEAMLET_JOBS, HORNBEAMLET_LONG_JOBS and HORNBEAMLET_DENSE_JOBS set how
+//! many jobs are run, HORNBEAMLET_SEED the seed of the first. A failure prints
+//! the seed of its job and the question, which `reference call` answers too.
 
 #![forbid(unsafe_code)]
 
@@ -40,6 +40,11 @@ fn small_jobs_agree_with_the_reference() {
 #[test]
 fn long_jobs_agree_with_the_reference() {
     compare_jobs(setting("HORNBEAMLET_LONG_JOBS", 150), jobs::long);
+}
+
+#[test]
+fn dense_jobs_agree_with_the_reference() {
+    compare_jobs(setting("HORNBEAMLET_DENSE_JOBS", 40), jobs::dense);
 }
 
 fn setting(name: &str, default: u64) -> u64 {

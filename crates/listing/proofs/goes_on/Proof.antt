@@ -1,5 +1,5 @@
 -- `listing::goes_on` meets its contract: outside the columns there is no record, and else the latest decides. Assumes nothing.
-use mathlib.Core.Path.{sym}
+use mathlib.Core.Path.{refl, sym}
 use native.Mathlib.Omega.{arith}
 use Rattle.listing.specs.Leaving.{laterIn}
 use Rattle.listing.proofs.Closing.{later-outside}
@@ -24,7 +24,7 @@ cast-result c = omega (arith, c .shared-slice-known .given (c .before .before .a
 
 returns-2 : tie.Need-returns-2
 unfolding laterIn
-returns-2 c = search needs
+returns-2 c = refl
 
 pub goes-on-spec : {M : Type 1} → statement M
 goes-on-spec = tie.close (tie.spec returns add-result mul-result shared-slice-read-result cast-result returns-2)

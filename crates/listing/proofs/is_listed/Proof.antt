@@ -18,7 +18,7 @@ span-requires c κs = search needs
 
 returns : tie.Need-returns
 unfolding firstSpan
-returns c = let a = c .before .before .before .before .args in sym (first-short (a .latest .now) (a .t) (a .x) (a .c) (omega (arith, c .if1 .taken, c .before .span .ensures)))
+returns c = let d = c .before in let a = d .before .before .before .args in sym (first-short (a .latest .now) (a .t) (a .x) (a .c) (omega (arith, c .if1 .taken, d .span .ensures)))
 
 span-requires-2 : tie.Need-span-requires-2
 span-requires-2 c κs = search needs
@@ -26,8 +26,10 @@ span-requires-2 c κs = search needs
 returns-2 : tie.Need-returns-2
 unfolding secondSpan
 returns-2 c =
-    let a = c .before .before .before .before .before .before .args in
-    sym (second-short (a .latest .now) (a .t) (a .x) (a .c) (omega (arith, c .if2 .taken, c .before .span2 .ensures)))
+    let e = c .before in
+    let d = e .before .before in
+    let a = d .before .before .before .args in
+    sym (second-short (a .latest .now) (a .t) (a .x) (a .c) (omega (arith, c .if2 .taken, e .span2 .ensures)))
 
 wide-requires : tie.Need-wide-requires
 wide-requires c κs = search needs
@@ -37,8 +39,11 @@ wide-requires-2 c κs = search needs
 
 is-open-requires : tie.Need-is-open-requires
 is-open-requires c κs =
-    let s = c .before .before .before .before .before .before .before .before in
-    (s .pre, (omega (arith, c .before .wide .ensures .1), omega (arith, c .wide2 .ensures .1)))
+    let w = c .before in
+    let e = w .before .before in
+    let d = e .before .before in
+    let s = d .before .before .before in
+    (s .pre, (omega (arith, w .wide .ensures .1), omega (arith, c .wide2 .ensures .1)))
 
 -- what was looked at, by j and b as they were before they were cast
 as-cast : (latest : List ℕ) (t : ℕ) {j j′ b b′ : ℕ} → j′ ≡ j → b′ ≡ b → someFrom (laterIn latest t) j (b + 1) ≡ someFrom (laterIn latest t) j′ (b′ + 1)
@@ -48,7 +53,9 @@ returns-3 : tie.Need-returns-3
 returns-3 c =
     let v = c .before .before in
     let w = v .before in
-    let a = w .before .before .before .before .before .before .before .args in
+    let e = w .before .before in
+    let d = e .before .before in
+    let a = d .before .before .before .args in
     sym (goes-on (a .latest .now) (a .t) (a .x) (a .c)
     (as-cast (a .latest .now) (a .t) (w .wide .ensures .0) (v .wide2 .ensures .0) ∙ sym (c .before .is-open .ensures) ∙ c .if3 .taken))
 
@@ -57,12 +64,14 @@ unfolding firstSpan secondSpan
 returns-4 c =
     let v = c .before .before in
     let w = v .before in
-    let e = w .before in
-    let d = e .before .before in
-    let a = d .before .before .before .before .args in
+    let f = w .before in
+    let e = f .before in
+    let g = e .before in
+    let d = g .before in
+    let a = d .before .before .before .args in
     sym (all-pass (a .latest .now) (a .t) (a .x) (a .c)
     (as-cast (a .latest .now) (a .t) (w .wide .ensures .0) (v .wide2 .ensures .0) ∙ sym (c .before .is-open .ensures) ∙ c .if3 .left)
-    (omega (arith, d .if1 .left, d .before .span .ensures)) (omega (arith, e .if2 .left, e .before .span2 .ensures)))
+    (omega (arith, g .if1 .left, d .span .ensures)) (omega (arith, f .if2 .left, e .span2 .ensures)))
 
 pub is-listed-spec : {M : Type 1} → statement M
 is-listed-spec =

@@ -31,7 +31,8 @@ returns c =
     let g = c .before in
     let l = g .before .before in
     let a = l .before .before .args in
-    sym (some-found (laterIn (a .latest .now) (a .t)) (a .j) (l .loop .n) (a .b) (g .before .loop-test .taken) (sym (g .goes-on .ensures) ∙ c .if1 .taken))
+    let z = g .before .loop-test .taken in
+    sym (some-found (laterIn (a .latest .now) (a .t)) (a .j) (l .loop .n) (a .b) (omega arith) (sym (g .goes-on .ensures) ∙ c .if1 .taken))
 
 add-n : tie.Need-add-n Inv-loop μ-loop
 add-n c = search needs

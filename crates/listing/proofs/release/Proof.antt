@@ -25,7 +25,11 @@ slot-requires : tie.Need-slot-requires Inv-loop μ-loop
 slot-requires c κs = let s = c .before .before .before .before .before .before in (s .pre .fits, omega arith)
 
 record-at-requires : tie.Need-record-at-requires Inv-loop μ-loop
-record-at-requires c κs = let s = c .before .before .before .before .before .before .before in omega (arith, c .slot .ensures .1, s .pre .room-for)
+record-at-requires c κs =
+    let l = c .before .before in
+    let w = l .before in
+    let s = w .before .before .before .before in
+    omega (arith, c .slot .ensures .1, s .pre .room-for)
 
 wide-requires-2 : tie.Need-wide-requires-2 Inv-loop μ-loop
 wide-requires-2 c κs = search needs

@@ -67,7 +67,12 @@ long-requires-5 c κs = search needs
 
 returns : tie.Need-returns
 unfolding entryOf entryIn
-returns c = rw (c .before .before .before .before .before .before .before .before .long .ensures .0, c .before .before .before .before .before .before .long2 .ensures .0, c .before .before .before .before .long3 .ensures .0, c .before .before .long4 .ensures .0, c .long5 .ensures .0)
+returns c =
+    let fourth = c .before .before in
+    let third = fourth .before .before in
+    let second = third .before .before in
+    let first = second .before .before in
+    rw (first .long .ensures .0, second .long2 .ensures .0, third .long3 .ensures .0, fourth .long4 .ensures .0, c .long5 .ensures .0)
 
 pub entry-at-spec : {M : Type 1} → statement M
 entry-at-spec =

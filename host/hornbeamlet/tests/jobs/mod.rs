@@ -67,6 +67,28 @@ pub fn long(random: &mut Random) -> Job {
     job
 }
 
+/// A job of two letters and a wide gap bound: most matches are left extensions of
+/// hundreds of others, of A and T on either strand.
+pub fn dense(random: &mut Random) -> Job {
+    let letters = random.one_of(&[b"AC", b"AT"]);
+    let [first, second] = [(); 2].map(|()| {
+        let length = random.between(200, 1_000);
+        random.letters(letters, length)
+    });
+    let settings = Settings {
+        k: random.one_of(&[4, 5, 6, 8]),
+        b: random.one_of(&[16, 64, 256, 1_024]),
+        a: 1_024,
+        m: random.one_of(&[0, 20, 100]),
+        strand: random.one_of(&[0, 1]),
+    };
+    Job {
+        settings,
+        first,
+        second,
+    }
+}
+
 /// Two sequences that have something in common.
 fn pair(random: &mut Random, longest: usize) -> (Vec<u8>, Vec<u8>) {
     match random.below(10) {
