@@ -2,66 +2,24 @@
 use mathlib.Core.Path.{_≡_, refl, sym, ap, subst, _∙_}
 use mathlib.Core.Logic.{_⊎_, inl, inr}
 use mathlib.Core.Bool.{Bool}
-use mathlib.Core.Option.{Option, none, some}
 use mathlib.Core.List.{List, [], _∷_, map, List·Memᴰ, List·Memᴰ·not-nil, List·Memᴰ·append-cases, Memᴰ·map}
 use Prim.Native.Nat.{ℕ, zero, suc, _+_, _≤_, _<_}
 use native.Mathlib.Omega.{arith}
-use native.Mathlib.Nat.{le-refl}
 use lib.Dec.{T}
 use lib.ListN.{length, getD, length-map}
 use Rattle.rules.specs.declared.Cell.{Cell}
 use Rattle.rules.specs.declared.Record.{Record}
 use Rattle.rules.specs.Matches.{cell, rowTo, matchesTo}
-use Rattle.rules.specs.Records.{pick, recordAfter, recordOf}
+use Rattle.rules.specs.Records.{recordOf}
 use Rattle.rules.specs.Listing.{Before, Ordered}
 use Rattle.rules.proofs.ListLaws.{mem-at}
-use Rattle.rules.proofs.LeftExtensions.{extend-facts, facts-extend}
-use Rattle.rules.proofs.Weights.{heavy, Sure, pick-sure, pick-heavy, sweep-cells}
+use Rattle.rules.proofs.Weights.{chain-first, chain-grown, Right, sweep-cells}
 use Rattle.rules.proofs.MatchList.{row-in, matches-in, row-ordered, matches-ordered, ordered-append}
-use Rattle.rules.proofs.Starts.{sweep-fixed}
+use Rattle.rules.proofs.Starts.{right-heaviest, sweep-fixed}
 use Rattle.rules.proofs.Sweeps.{matchedTo, sweptTo}
+use Rattle.rules.proofs.Among.{among, among-in, records-right}
 use Rattle.predecessors.specs.Numbers.{nth}
-use Rattle.predecessors.specs.Index.{Farther, Single, Known, Sorted}
-
-after-weight : (c : Cell) (o : Option Record) → recordAfter c o .weight ≡ suc (heavy o)
-unfolding recordAfter
-after-weight c none = refl
-after-weight c (some x) = refl
-
--- records that are each the record over all of them
-module _ (b : ℕ) (all : List Record) (fixed : (x : Record) → List·Memᴰ x all → x ≡ recordOf b all (x .cell)) where
-  weight-is : (x : Record) → List·Memᴰ x all → x .weight ≡ suc (heavy (pick b (x .cell) none all))
-  unfolding recordOf
-  weight-is x m = ap (λ (r : Record). r .weight) (fixed x m) ∙ after-weight (x .cell) (pick b (x .cell) none all)
-
-  -- CR 3: with no chain in sight
-  pub fixed-farther : Farther b all
-  fixed-farther x y mx my e =
-      let h = pick-heavy b (y .cell) all none x mx (facts-extend b (x .cell) (y .cell) e) in
-      let w = weight-is y my in
-      omega arith
-
-  pub fixed-single : Single all
-  fixed-single x y mx my er ec =
-      let k : x .cell ≡ y .cell = λ t. cell (er t) (ec t) in
-      fixed x mx ∙ ap (recordOf b all) k ∙ sym (fixed y my)
-
-  -- a weight is less than the sum of its places
-  light-to : ((x : Record) → List·Memᴰ x all → 1 ≤ x .cell .row + x .cell .column) → (n : ℕ) (x : Record) → List·Memᴰ x all → x .cell .row + x .cell .column ≤ n → x .weight ≤ x .cell .row + x .cell .column
-  light-to p zero x m l = absurd (let u = p x m in omega arith)
-  light-to p (suc n) x m l =
-      let w = weight-is x m in
-      let u = p x m in
-      go (pick b (x .cell) none all) w
-      (pick-sure b (x .cell) (λ y. y .weight < x .cell .row + x .cell .column) all none tt
-      (λ y my t. let e = extend-facts b (y .cell) (x .cell) t in let k = light-to p n y my (omega arith) in omega arith))
-    where
-      go : (o : Option Record) → x .weight ≡ suc (heavy o) → Sure (λ y. y .weight < x .cell .row + x .cell .column) o → x .weight ≤ x .cell .row + x .cell .column
-      go none e s = let u = p x m in omega arith
-      go (some y) e s = omega arith
-
-  pub fixed-light : ((x : Record) → List·Memᴰ x all → 1 ≤ x .cell .row + x .cell .column) → (x : Record) → List·Memᴰ x all → x .weight ≤ x .cell .row + x .cell .column
-  fixed-light p x m = light-to p (x .cell .row + x .cell .column) x m (le-refl _)
+use Rattle.predecessors.specs.Index.{Single, Known, Sorted}
 
 -- by number
 ordered-at : (cs : List Cell) → Ordered cs → (d : Cell) (g h : ℕ) → g < h → h < length cs → Before (getD cs g d) (getD cs h d)
@@ -96,6 +54,15 @@ module _ (b : ℕ) (hit : Cell → Bool) (columns : ℕ) (i j : ℕ) where
       go (inl n) = absurd (List·Memᴰ·not-nil n)
       go (inr e) = e
 
+  -- a cell has one record
+  swept-single : Single all
+  swept-single x y mx my e = swept-fixed x mx ∙ ap (recordOf b all) e ∙ sym (swept-fixed y my)
+
+  -- the matches so far are matches of their own, and the records have their heaviest weights
+  swept-right : (x : Record) → List·Memᴰ x all → Right b (among (matchedTo b hit columns i j)) x
+  unfolding sweptTo
+  swept-right = records-right (matchedTo b hit columns i j) b matched-ordered
+
   swept-cells : map (λ (x : Record). x .cell) all ≡ matchedTo b hit columns i j
   unfolding sweptTo
   swept-cells = sweep-cells b hit (matchedTo b hit columns i j) []
@@ -109,17 +76,20 @@ module _ (b : ℕ) (hit : Cell → Bool) (columns : ℕ) (i j : ℕ) where
     pub own : y .row ≡ suc i → y .column ≤ j
     pub low : y .row ≤ i → y .column ≤ columns
 
-  pub swept-place : (x : Record) → List·Memᴰ x all → Place (x .cell)
+  matched-place : (y : Cell) → List·Memᴰ y (matchedTo b hit columns i j) → Place y
   unfolding matchedTo
-  swept-place x m = go (List·Memᴰ·append-cases (matchesTo hit columns i) (subst (λ (l : List Cell). List·Memᴰ (x .cell) l) swept-cells (Memᴰ·map (λ (r : Record). r .cell) m)))
+  matched-place y m = go (List·Memᴰ·append-cases (matchesTo hit columns i) m)
     where
-      go : List·Memᴰ (x .cell) (matchesTo hit columns i) ⊎ List·Memᴰ (x .cell) (rowTo hit (suc i) j) → Place (x .cell)
+      go : List·Memᴰ y (matchesTo hit columns i) ⊎ List·Memᴰ y (rowTo hit (suc i) j) → Place y
       go (inl n) =
-          let h = matches-in hit columns i (x .cell) n in
+          let h = matches-in hit columns i y n in
           record { is-hit = h .is-hit; row-from = h .row-from; row-to = omega (arith, h .row-to); column-from = h .column-from; own = λ e. absurd (omega (arith, h .row-to)); low = λ _. h .column-to }
       go (inr n) =
-          let h = row-in hit (suc i) j (x .cell) n in
+          let h = row-in hit (suc i) j y n in
           record { is-hit = h .is-hit; row-from = omega (arith, h .row-is); row-to = omega (arith, h .row-is); column-from = h .column-from; own = λ _. h .column-to; low = λ l. absurd (omega (arith, h .row-is)) }
+
+  pub swept-place : (x : Record) → List·Memᴰ x all → Place (x .cell)
+  swept-place x m = matched-place (x .cell) (subst (List·Memᴰ (x .cell)) swept-cells (Memᴰ·map (λ (r : Record). r .cell) m))
 
   pub swept-sorted : Sorted all
   swept-sorted g h l k =
@@ -133,12 +103,17 @@ module _ (b : ℕ) (hit : Cell → Bool) (columns : ℕ) (i j : ℕ) where
   pub swept-before : (c : ℕ) → j < c → Known b (cell (suc i) c) all
   swept-before c l =
       record {
-        farther = fixed-farther b all swept-fixed;
-        single = fixed-single b all swept-fixed;
+        hit = among (matchedTo b hit columns i j);
+        heaviest = λ x m. right-heaviest (swept-right x m);
+        single = swept-single;
         rows = λ x m. swept-place x m .row-to;
         from-one = λ x m. swept-place x m .column-from;
         own = λ x m e. (let u = swept-place x m .own e in omega arith);
       }
 
+  -- a weight is at most the sum of its row and column
   pub swept-light : (x : Record) → List·Memᴰ x all → x .weight ≤ x .cell .row + x .cell .column
-  swept-light = fixed-light b all swept-fixed (λ x m. let p = swept-place x m in omega (arith, p .row-from))
+  swept-light x m =
+      let chain = swept-right x m .reached in
+      let p = matched-place (x .start) (among-in (matchedTo b hit columns i j) (x .start) (chain-first chain)) in
+      omega (arith, chain-grown chain .weight, p .row-from)

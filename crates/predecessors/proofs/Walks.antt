@@ -1,6 +1,7 @@
--- Which records a walk over columns may pass over, and when it may end: what lies at or before another left extension in both sequences weighs less.
--- Assumes nothing.
+-- Which records a walk over columns may pass over, and when it may end, by CR 3's theorem: what lies at or before another left extension in both
+-- sequences weighs less. Assumes nothing.
 use mathlib.Core.Path.{_≡_, refl, sym, ap, subst⁻¹}
+use mathlib.Core.Logic.{_⊎_, inl, inr}
 use mathlib.Core.Option.{Option, none, some}
 use mathlib.Core.List.{List, List·Memᴰ}
 use Prim.Native.Nat.{ℕ, _+_, _-_, _≤_, _<_}
@@ -8,12 +9,13 @@ use native.Mathlib.Omega.{arith}
 use lib.Dec.{T}
 use Rattle.rules.specs.declared.Cell.{Cell}
 use Rattle.rules.specs.declared.Record.{Record}
-use Rattle.rules.specs.Chains.{leftExtension}
+use Rattle.rules.specs.Chains.{leftExtension, Heaviest, LeftExtension}
 use Rattle.rules.specs.Records.{beats, better, pick}
 use Rattle.rules.proofs.Tests.{Three, below, equal, above, three}
-use Rattle.rules.proofs.LeftExtensions.{Extends, extend-facts, facts-extend}
-use Rattle.rules.proofs.Weights.{Sure, pick-sure, better-sure}
+use Rattle.rules.proofs.LeftExtensions.{same-cell, Extends, extend-facts, facts-extend}
+use Rattle.rules.proofs.Weights.{Sure, pick-sure, better-sure, chain-hit}
 use Rattle.rules.proofs.Ties.{by-weight, by-column, by-row, is-beats, beats-trans, beats-irrefl, Under, better-new, better-old, pick-first}
+use Rattle.rules.proofs.Farther.{overtaken, latest-row, nearest-column}
 use Rattle.predecessors.specs.Index.{Single, Known}
 
 -- ---- one that weighs less is not before, and stays so
@@ -22,23 +24,22 @@ heavy-beats : (x y : Record) → x .weight < y .weight → T (beats y x)
 heavy-beats x y h = is-beats y x (by-weight h)
 
 -- z weighs less than y, and y is not before what is picked: nor is z
-pub under-light : (z y : Record) (o : Option Record) → z .weight < y .weight → Under y o → Under z o
+under-light : (z y : Record) (o : Option Record) → z .weight < y .weight → Under y o → Under z o
 under-light z y none h u = u
 under-light z y (some p) h u = λ t. u (beats-trans y z p (heavy-beats z y h) t)
 
 -- neither before the other: one record
-even : (x y : Record) → ¬ T (beats x y) → ¬ T (beats y x) → (x .cell .row ≡ y .cell .row) × (x .cell .column ≡ y .cell .column)
+even : (x y : Record) → ¬ T (beats x y) → ¬ T (beats y x) → x .cell ≡ y .cell
 even x y f g = go (three (x .weight) (y .weight)) (three (x .cell .column) (y .cell .column)) (three (x .cell .row) (y .cell .row))
   where
-    go : Three (x .weight) (y .weight) → Three (x .cell .column) (y .cell .column) → Three (x .cell .row) (y .cell .row)
-        → (x .cell .row ≡ y .cell .row) × (x .cell .column ≡ y .cell .column)
+    go : Three (x .weight) (y .weight) → Three (x .cell .column) (y .cell .column) → Three (x .cell .row) (y .cell .row) → x .cell ≡ y .cell
     go (below h) p q = absurd (g (is-beats y x (by-weight h)))
     go (above h) p q = absurd (f (is-beats x y (by-weight h)))
     go (equal h) (below p) q = absurd (f (is-beats x y (by-column h p)))
     go (equal h) (above p) q = absurd (g (is-beats y x (by-column (sym h) p)))
     go (equal h) (equal p) (below q) = absurd (f (is-beats x y (by-row h p q)))
     go (equal h) (equal p) (above q) = absurd (g (is-beats y x (by-row (sym h) (sym p) q)))
-    go (equal h) (equal p) (equal q) = (q, p)
+    go (equal h) (equal p) (equal q) = same-cell q p
 
 module _ (b : ℕ) (c : Cell) (ws : List Record) where
   -- x is held and a left extension of c
@@ -72,23 +73,32 @@ module _ (b : ℕ) (c : Cell) (ws : List Record) where
       go none none s f t g = refl
       go none (some y) s f t g = absurd (f y t)
       go (some x) none s f t g = absurd (g x s)
-      go (some x) (some y) s f t g =
-          let e = even x y (g x s) (f y t) in
-          ap some (one x y (s .here) (t .here) (e .0) (e .1))
+      go (some x) (some y) s f t g = ap some (one x y (s .here) (t .here) (even x y (g x s) (f y t)))
 
   module _ (w : Known b c ws) where
-    -- of two left extensions, where y lies at or beyond x in both sequences: x is y or weighs less
-    pub beyond : (x y : Record) (o : Option Record) → Near x → Near y → x .cell .row ≤ y .cell .row → x .cell .column ≤ y .cell .column → Under y o → Under x o
-    beyond x y o nx ny hr hc u = go (three (x .cell .row + x .cell .column) (y .cell .row + y .cell .column))
-      where
-        go : Three (x .cell .row + x .cell .column) (y .cell .row + y .cell .column) → Under x o
-        go (below h) =
-            let ex = nx .left in
-            let ey = ny .left in
-            under-light x y o (w .farther x y (nx .here) (ny .here)
-            record { row-le = hr; row-near = omega arith; column-le = hc; column-near = omega arith; moved = h }) u
-        go (equal h) = subst⁻¹ (λ (z : Record). Under z o) (w .single x y (nx .here) (ny .here) (omega arith) (omega arith)) u
-        go (above h) = absurd (omega arith)
+    weighs : (x : Record) → Near x → Heaviest b (w .hit) (x .cell) (x .weight)
+    weighs x n = w .heaviest x (n .here)
+
+    extends : (x : Record) → Near x → LeftExtension b (w .hit) c (x .cell)
+    extends x n = record { is-match = chain-hit (weighs x n .reached); extends = facts-extend b (x .cell) c (n .left) }
+
+    module _ (x y : Record) (o : Option Record) (nx : Near x) (ny : Near y) where
+      -- x weighs less than y or is y: where y is not before what is picked, x is not
+      not-before : (x .weight < y .weight) ⊎ (x .cell ≡ y .cell) → Under y o → Under x o
+      not-before (inl h) u = under-light x y o h u
+      not-before (inr e) u = subst⁻¹ (λ (z : Record). Under z o) (w .single x y (nx .here) (ny .here) e) u
+
+      -- y lies at or beyond x in both sequences
+      pub beyond : x .cell .row ≤ y .cell .row → x .cell .column ≤ y .cell .column → Under y o → Under x o
+      beyond hr hc = not-before (overtaken (extends x nx) (extends y ny) (weighs x nx) (weighs y ny) (record { rows = hr; columns = hc }))
+
+      -- in one column y has the later row
+      later : x .cell .column ≡ y .cell .column → x .cell .row ≤ y .cell .row → Under y o → Under x o
+      later e h = not-before (latest-row (extends x nx) (extends y ny) (weighs x nx) (weighs y ny) e h)
+
+      -- in one row y is nearer on the left
+      nearer : x .cell .row ≡ y .cell .row → x .cell .column ≤ y .cell .column → Under y o → Under x o
+      nearer e h = not-before (nearest-column (extends x nx) (extends y ny) (weighs x nx) (weighs y ny) e h)
 
     -- a record whose row and column lie in c's window is a left extension
     pub is-near : (x : Record) → List·Memᴰ x ws → c .row ≤ x .cell .row + b → x .cell .column ≤ c .column → c .column ≤ x .cell .column + b → Near x
@@ -107,7 +117,7 @@ module _ (b : ℕ) (c : Cell) (ws : List Record) where
     walk-near y ny e f =
         record {
           from = ny;
-          own = λ x n r. beyond x y (some y) n ny (omega arith) (f x (n .here) r) (beats-irrefl y);
+          own = λ x n r. nearer x y (some y) n ny (omega arith) (f x (n .here) r) (beats-irrefl y);
           low = λ x n h. beyond x y (some y) n ny (let k = n .left in omega arith) h (beats-irrefl y);
           over = λ x n h. (let k = n .left in omega arith);
         }
@@ -141,7 +151,7 @@ module _ (b : ℕ) (c : Cell) (ws : List Record) where
         where
           go : (z : Record) → Near z → q - 1 < z .cell .column → Three q (z .cell .column) → Under z (better o x)
           go z n h (below g) = better-old o x z (k .over z n g)
-          go z n h (equal g) = beyond z x (better o x) n nx (f z (n .here) (sym g)) (omega arith) (better-new o x)
+          go z n h (equal g) = later z x (better o x) n nx (omega arith) (f z (n .here) (sym g)) (better-new o x)
           go z n h (above g) = absurd (omega arith)
 
       -- where all that is left cannot be

@@ -1,5 +1,6 @@
 -- What a search for a predecessor relies on: all records so far, those still in the room, and of each column the latest. Assumes nothing.
 use mathlib.Core.Path.{_≡_}
+use mathlib.Core.Bool.{Bool}
 use mathlib.Core.Option.{none}
 use mathlib.Core.List.{List, List·Memᴰ}
 use Prim.Native.Nat.{ℕ, _+_, _-_, _*_, _≤_, _<_}
@@ -7,24 +8,21 @@ use lib.ListN.{length, getD}
 use Rattle.rules.specs.declared.Cell.{Cell}
 use Rattle.rules.specs.declared.Record.{Record}
 use Rattle.rules.specs.Matches.{cell}
+use Rattle.rules.specs.Chains.{Heaviest}
 use Rattle.rules.specs.Records.{pick}
 use Rattle.rules.specs.Listing.{Before}
-use Rattle.rules.proofs.LeftExtensions.{Extends}
 use Rattle.rooms.specs.Layout.{Holds}
 use Rattle.predecessors.specs.declared.Ring.{Ring}
 use Rattle.predecessors.specs.Numbers.{RingFits, slotOf, numbered, nth}
 
--- of two records, one a left extension of the other, the other weighs more
-abbrev pub Farther : ℕ → List Record → Type 0
-Farther b ws = (x y : Record) → List·Memᴰ x ws → List·Memᴰ y ws → Extends b (x .cell) (y .cell) → x .weight < y .weight
-
 -- a cell has one record
 abbrev pub Single : List Record → Type 0
-Single ws = (x y : Record) → List·Memᴰ x ws → List·Memᴰ y ws → x .cell .row ≡ y .cell .row → x .cell .column ≡ y .cell .column → x ≡ y
+Single ws = (x y : Record) → List·Memᴰ x ws → List·Memᴰ y ws → x .cell ≡ y .cell → x ≡ y
 
--- the records of all matches before c: no row is later, and in its own row only columns before it
+-- the records of all matches before c, each with the heaviest weight by these matches: no row is later, and in its own row only columns before it
 pub record Known (b : ℕ) (c : Cell) (ws : List Record) : Type 0 where
-  pub farther : Farther b ws
+  pub hit : Cell → Bool
+  pub heaviest : (x : Record) → List·Memᴰ x ws → Heaviest b hit (x .cell) (x .weight)
   pub single : Single ws
   pub rows : (x : Record) → List·Memᴰ x ws → x .cell .row ≤ c .row
   pub from-one : (x : Record) → List·Memᴰ x ws → 1 ≤ x .cell .column

@@ -1,5 +1,5 @@
 // The predecessor of a match, found by walking columns down from its own. A column is known by the running number of its latest record: of two left
-// extensions the one at or beyond the other in both sequences weighs strictly more, so what is overtaken never wins.
+// extensions the one at or beyond the other in both sequences weighs strictly more (CR 3), so what is overtaken never wins.
 use rules::Record;
 ghost use mathlib.Core.Path.{_≡_};
 ghost use mathlib.Core.Bool.{cond};
@@ -32,7 +32,8 @@ pub fn slot(ring: Ring, n: usize) -> usize
     at - size
 }
 
-// Whether x is preferred to y as a predecessor: more weight, then the smaller column, then the smaller row.
+// Whether x is preferred to y as a predecessor: more weight, then the smaller column, then the smaller row. That is the paper's rule for any two
+// records; between two left extensions of one match the row never decides (CR 3).
 pub fn preferred(x: Record, y: Record) -> bool
     ensures { λ r. ⌜ r ≡ beats x y ⌝ }
 {

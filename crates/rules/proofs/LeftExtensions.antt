@@ -1,12 +1,17 @@
 -- A left extension as facts on numbers, and which matches in order are left extensions of which. Assumes nothing.
+use mathlib.Core.Path.{_≡_}
 use Prim.Native.Nat.{ℕ, _+_, _≤_, _<_}
 use native.Mathlib.Nat.{lt-of-not-le}
 use native.Mathlib.Omega.{arith}
 use lib.Dec.{T}
-use Rattle.rules.specs.Matches.{Cell}
+use Rattle.rules.specs.Matches.{Cell, cell}
 use Rattle.rules.specs.Chains.{leftExtension}
 use Rattle.rules.specs.Listing.{Before}
 use Rattle.rules.proofs.Tests.{tests, Three, below, equal, above, three}
+
+-- a cell is its row and its column
+pub same-cell : {x y : Cell} → x .row ≡ y .row → x .column ≡ y .column → x ≡ y
+same-cell er ec = λ i. cell (er i) (ec i)
 
 pub record Extends (b : ℕ) (x y : Cell) : Type 0 where
   pub row-le : x .row ≤ y .row

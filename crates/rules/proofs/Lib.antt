@@ -12,6 +12,8 @@ pub mod Sweeps
 pub mod Jobs
 pub mod Bounds
 pub mod Listings
+pub mod Among
+pub mod Farther
 pub mod Maximal
 pub mod Strands
 pub mod Outcomes

@@ -17,7 +17,7 @@ use Rattle.rules.specs.Records.{Record, records}
 use Rattle.rules.specs.Listing.{closed, longEnough, isListed, listing}
 use Rattle.rules.specs.Earlier.{beyond, closedEarlier, listingEarlier}
 use Rattle.rules.proofs.Tests.{tests, T-and, tested}
-use Rattle.rules.proofs.LeftExtensions.{Extends, extend-facts, facts-extend, not-self}
+use Rattle.rules.proofs.LeftExtensions.{same-cell, Extends, extend-facts, facts-extend, not-self}
 use Rattle.rules.proofs.ListLaws.{keep-narrower}
 use Rattle.rules.proofs.Weights.{chain-hit}
 use Rattle.rules.proofs.Jobs.{match-in, match-inside}
@@ -51,7 +51,7 @@ module _ (b : ℕ) (hit : Cell → Bool) (c : Cell) where
               let er : c .row + (y .row - c .row) ≡ y .row = omega (arith, e .row-le) in
               let ec : c .column + (y .column - c .column) ≡ y .column = omega (arith, e .column-le) in
               h (y .row - c .row) (y .column - c .column) (omega (arith, e .row-near)) (omega (arith, e .column-near)) (omega (arith, e .moved, e .row-le, e .column-le))
-              (subst (λ (z : Cell). T (hit z)) (sym (λ i. cell (er i) (ec i))) t)
+              (subst (λ (z : Cell). T (hit z)) (sym (same-cell er ec)) t)
 
   -- ---- right-maximal
 

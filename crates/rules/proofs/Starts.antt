@@ -9,12 +9,12 @@ use native.Mathlib.Nat.{le-refl, le-antisymm}
 use native.Mathlib.Omega.{arith}
 use lib.Arith.{le-zero}
 use lib.Dec.{T}
-use Rattle.rules.specs.Matches.{Cell, cell}
+use Rattle.rules.specs.Matches.{Cell}
 use Rattle.rules.specs.Chains.{leftExtension, Chain, one, more, Heaviest, Preferred, heavier, smaller-column, smaller-row, same-one, Predecessor, Start, itself, through}
 use Rattle.rules.specs.Records.{Record, beats, consider, pick, recordAfter, recordOf, recordsFrom}
 use Rattle.rules.specs.Listing.{Before, Ordered}
 use Rattle.rules.proofs.Tests.{T-false, Three, three, below, equal, above}
-use Rattle.rules.proofs.LeftExtensions.{not-self, not-after}
+use Rattle.rules.proofs.LeftExtensions.{same-cell, not-self, not-after}
 use Rattle.rules.proofs.Weights.{Sure, pick-sure, chain-hit, Right}
 use Rattle.rules.proofs.Ties.{is-beats, Under, pick-first, by-weight, by-column, by-row}
 
@@ -174,23 +174,20 @@ pub predecessor-one : {b : ℕ} {hit : Cell → Bool} {c x y : Cell} → Predece
 predecessor-one {x = x} {y = y} p q =
     go (p .first y (q .weight) (q .is-match) (q .is-left) (q .heaviest)) (q .first x (p .weight) (p .is-match) (p .is-left) (p .heaviest))
   where
-    same : x .row ≡ y .row → x .column ≡ y .column → x ≡ y
-    same er ec = λ i. cell (er i) (ec i)
-
     go : {v w : ℕ} → Preferred x v y w → Preferred y w x v → x ≡ y
-    go (same-one er ec) k = same er ec
+    go (same-one er ec) k = same-cell er ec
     go (heavier h) (heavier g) = absurd (omega arith)
     go (heavier h) (smaller-column e g) = absurd (omega arith)
     go (heavier h) (smaller-row e f g) = absurd (omega arith)
-    go (heavier h) (same-one er ec) = same (sym er) (sym ec)
+    go (heavier h) (same-one er ec) = same-cell (sym er) (sym ec)
     go (smaller-column e h) (heavier g) = absurd (omega arith)
     go (smaller-column e h) (smaller-column d g) = absurd (omega arith)
     go (smaller-column e h) (smaller-row d f g) = absurd (omega arith)
-    go (smaller-column e h) (same-one er ec) = same (sym er) (sym ec)
+    go (smaller-column e h) (same-one er ec) = same-cell (sym er) (sym ec)
     go (smaller-row e f h) (heavier g) = absurd (omega arith)
     go (smaller-row e f h) (smaller-column d g) = absurd (omega arith)
     go (smaller-row e f h) (smaller-row d k g) = absurd (omega arith)
-    go (smaller-row e f h) (same-one er ec) = same (sym er) (sym ec)
+    go (smaller-row e f h) (same-one er ec) = same-cell (sym er) (sym ec)
 
 pub start-one : {b : ℕ} {hit : Cell → Bool} {c p q : Cell} → Start b hit c p → Start b hit c q → p ≡ q
 start-one (itself n) (itself m) = refl

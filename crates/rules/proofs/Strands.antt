@@ -14,7 +14,6 @@ use Rattle.rules.specs.Lists.{largestOf, laid}
 use Rattle.rules.specs.Letters.{codeOf, complement, reverseComplement, badFrom, badPlace}
 use Rattle.rules.specs.Places.{places, lettersAt}
 use Rattle.rules.specs.Matches.{Cell, isMatch, matches}
-use Rattle.rules.specs.Chains.{Chain, one, more}
 use Rattle.rules.specs.Records.{Record, records}
 use Rattle.rules.specs.Listing.{ends, entryNumbers, isListed, listing}
 use Rattle.rules.specs.Rooms.{matchTotal, workNeed, linkTotal}
@@ -22,7 +21,7 @@ use Rattle.rules.specs.Strands.{onStrand, strands, turned, reverseNumber
 use Rattle.rules.proofs.Tests.{tests}
 use Rattle.rules.proofs.Letters.{complement-twice}
 use Rattle.rules.proofs.Kmers.{kmer-letters}
-use Rattle.rules.proofs.Weights.{chain-hit, chain-grown}
+use Rattle.rules.proofs.Weights.{chain-hit, chain-first, chain-grown}
 use Rattle.rules.proofs.Jobs.{match-facts, match-inside, start-of-heaviest}
 use Rattle.rules.proofs.ListLaws.{sumOf-times, largestOf-le, largestOf-ge, laid-append, laid-map, laid-in, laid-length}
 use Rattle.rules.proofs.Bounds.{W-bound, links-bound}
@@ -93,11 +92,6 @@ letters-turned k t j h l =
 -- a match's k letters are the same on both sides
 match-letters : (c : Settings) (s t : List ℕ) (y : Cell) → T (isMatch c s t y) → lettersAt (c .k) s (y .row) ≡ lettersAt (c .k) t (y .column)
 match-letters c s t y h = kmer-letters (c .k) s t (y .row) (y .column) (match-facts c s t y h .0)
-
--- the first match of a chain is a match
-chain-first : {b : ℕ} {hit : Cell → Bool} {p y : Cell} {n : ℕ} → Chain b hit p y n → T (hit p)
-chain-first (one h) = h
-chain-first (more ch l h) = chain-first ch
 
 -- the first of the last k places, turned, and the row from its end
 last-first : (letters q k : ℕ) → 1 ≤ q → q ≤ letters + 1 → letters + 1 - q + 1 - k ≡ letters + 1 - (q + k - 1)

@@ -1,7 +1,8 @@
 -- THE THEOREMS about the definitions of specs/, of every sweep: settings c, a first sequence, and a second one as it stands on the strand that is swept;
--- and about the strands. Each is proved in the file that its line cites. Assumes nothing.
-use mathlib.Core.Path.{_≡_, sym, _∙_}
-use mathlib.Core.Logic.{_↔_}
+-- of any gap bound and any matches, for CR 3; and about the strands. Each is proved in the file that its line cites. Assumes nothing.
+use mathlib.Core.Path.{_≡_, refl, sym, _∙_}
+use mathlib.Core.Logic.{_⊎_, _↔_}
+use mathlib.Core.Bool.{Bool}
 use mathlib.Core.List.{List, [], _++_, map, List·Memᴰ}
 use Prim.Native.Nat.{ℕ, _+_, _-_, _*_, _≤_, _<_, min}
 use native.Mathlib.Omega.{arith}
@@ -13,7 +14,7 @@ use Rattle.rules.specs.Places.{kmerAt, packed}
 use Rattle.rules.specs.Matches.{Cell, cell, isMatch, matches}
 use mathlib.Core.Option.{some}
 use Rattle.rules.specs.Codes.{codes, codeMatch}
-use Rattle.rules.specs.Chains.{Chain, Heaviest, Predecessor, Start, Closed, Through, RightMaximal}
+use Rattle.rules.specs.Chains.{Chain, Heaviest, Preferred, Predecessor, Start, Closed, Through, RightMaximal, LeftExtension, AtOrBeyond, PreferredByColumn, PredecessorByColumn}
 use Rattle.rules.specs.Records.{Record, records}
 use Rattle.rules.specs.Listing.{isListed, listing, ends, Listed, Ordered}
 use Rattle.rules.specs.Earlier.{listingEarlier}
@@ -24,6 +25,7 @@ use Rattle.rules.proofs.Kmers.{kmer-of, packed-same, match-by-code}
 use Rattle.rules.proofs.Starts.{heaviest-one, predecessor-one, start-one}
 use Rattle.rules.proofs.Jobs.{match-in, match-has, record-cells, weight-heaviest, start-right, start-of-heaviest}
 use Rattle.rules.proofs.Listings.{listing-in, listing-has, listing-ordered, held-in, held-has, held-ordered}
+use Rattle.rules.proofs.Farther.{farther-heavier, latest-row, nearest-column, larger-row, columns-apart, by-column, preferred-by-column, row-left-out, not-overtaken, nearest-of-row, latest-held}
 use Rattle.rules.proofs.Maximal.{closed-offsets, closed-maximal, every-carried, listing-left}
 use Rattle.rules.proofs.Bounds.{W-bound, links-bound, no-matches, no-links}
 use Rattle.rules.proofs.Strands.{turned-twice, place-twice, reads-turned, reverse-within, need-of-each, forward, both, forward-first}
@@ -131,6 +133,50 @@ module _ (c : Settings) (first second : List ℕ) where
   -- "With a = 1 there are no matches, and it is 0."
   pub none-at-one : c .a ≡ 1 → (matches c first second ≡ []) × (linkTotal c first second ≡ 0)
   none-at-one e = (no-matches c first second e, no-links c first second e)
+
+-- ---- does the second tie rule ever decide? (CR 3)
+
+module _ (b : ℕ) (hit : Cell → Bool) (c x y : Cell) (lx : LeftExtension b hit c x) (ly : LeftExtension b hit c y) where
+  -- "two left extensions of one match with equal heaviest weights never share a column"
+  pub equal-weights-apart : ¬ (x ≡ y) → (w : ℕ) → Heaviest b hit x w → Heaviest b hit y w → ¬ (x .column ≡ y .column)
+  equal-weights-apart two w = columns-apart lx ly two
+
+  -- "so the smaller row never decides"
+  pub row-never-decides : (w v : ℕ) → Heaviest b hit x w → Heaviest b hit y v → Preferred x w y v ↔ PreferredByColumn x w y v
+  row-never-decides w v hx hy = (by-column lx ly hx hy, preferred-by-column)
+
+  -- "of two left extensions where one lies at or beyond the other in both sequences, the farther one weighs strictly more"
+  pub farther-weighs-more : ¬ (x ≡ y) → AtOrBeyond x y → (v w : ℕ) → Heaviest b hit x v → Heaviest b hit y w → v < w
+  farther-weighs-more two far v w = farther-heavier lx ly two far
+
+  -- so in one column the latest row is the heaviest: any other weighs less
+  pub latest-row-heaviest : (v w : ℕ) → Heaviest b hit x v → Heaviest b hit y w → x .column ≡ y .column → x .row ≤ y .row → (v < w) ⊎ (x ≡ y)
+  latest-row-heaviest v w = latest-row lx ly
+
+  -- and in one row the nearest on the left
+  pub nearest-heaviest : (v w : ℕ) → Heaviest b hit x v → Heaviest b hit y w → x .row ≡ y .row → x .column ≤ y .column → (v < w) ⊎ (x ≡ y)
+  nearest-heaviest v w = nearest-column lx ly
+
+  -- of two of equal weight the one in the smaller column has the larger row
+  pub smaller-column-larger-row : (w : ℕ) → Heaviest b hit x w → Heaviest b hit y w → x .column < y .column → y .row < x .row
+  smaller-column-larger-row w hx hy = larger-row lx ly hx hy refl
+
+  -- one at or before another in both sequences is never the predecessor
+  pub overtaken-no-predecessor : ¬ (x ≡ y) → AtOrBeyond x y → ¬ Predecessor b hit c x
+  overtaken-no-predecessor two far p = not-overtaken p ly two far
+
+  -- of the matches of one row only the nearest on the left can be
+  pub nearest-alone : x .row ≡ y .row → Predecessor b hit c x → y .column ≤ x .column
+  nearest-alone e p = nearest-of-row p ly e
+
+-- the tie rule without its last words gives every match the same predecessor
+pub predecessor-by-column : (b : ℕ) (hit : Cell → Bool) (c x : Cell) → Predecessor b hit c x ↔ PredecessorByColumn b hit c x
+predecessor-by-column b hit c x = row-left-out
+
+-- of what a sweep holds after a row, in one column the latest row is the heaviest
+pub latest-held-heaviest : (c : Settings) (first second : List ℕ) (r : ℕ) (x y : Record) → List·Memᴰ x (held c first second r) → List·Memᴰ y (held c first second r)
+    → x .cell .column ≡ y .cell .column → x .cell .row ≤ y .cell .row → (x .weight < y .weight) ⊎ (x .cell ≡ y .cell)
+latest-held-heaviest = latest-held
 
 -- ---- strands
 

@@ -31,7 +31,7 @@ unbeaten-le x y f =
     omega arith
 
 -- the weight of what was picked; 0 where nothing was
-abbrev pub heavy : Option Record → ℕ
+abbrev heavy : Option Record → ℕ
 heavy none = 0
 heavy (some x) = x .weight
 
@@ -71,7 +71,7 @@ module _ (b : ℕ) (c : Cell) where
       (by-test (λ (r : Option Record). heavy o ≤ heavy r) (leftExtension b (x .cell) c) (better o x) o (λ _. better-heavy o x .0) (λ _. le-refl _))
       (pick-keeps xs (cond (leftExtension b (x .cell) c) (better o x) o))
 
-  pub pick-heavy : (xs : List Record) (o : Option Record) (x : Record) → List·Memᴰ x xs → T (leftExtension b (x .cell) c) → x .weight ≤ heavy (pick b c o xs)
+  pick-heavy : (xs : List Record) (o : Option Record) (x : Record) → List·Memᴰ x xs → T (leftExtension b (x .cell) c) → x .weight ≤ heavy (pick b c o xs)
   unfolding pick
   pick-heavy xs o x (List·Memᴰ·head {x = y} {xs = ys} e) t =
       le-trans
@@ -83,9 +83,14 @@ module _ (b : ℕ) (c : Cell) where
 
 -- ---- the record of the next match
 
+-- the last match of a chain is a match, and so is its first
 pub chain-hit : {b : ℕ} {hit : Cell → Bool} {p y : Cell} {n : ℕ} → Chain b hit p y n → T (hit y)
 chain-hit (one h) = h
 chain-hit (more ch e h) = h
+
+pub chain-first : {b : ℕ} {hit : Cell → Bool} {p y : Cell} {n : ℕ} → Chain b hit p y n → T (hit p)
+chain-first (one h) = h
+chain-first (more ch e h) = chain-first ch
 
 -- a chain goes down and to the right, by at least one a match
 pub record Grown (p y : Cell) (n : ℕ) : Type 0 where

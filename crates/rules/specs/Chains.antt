@@ -56,3 +56,28 @@ Through c (more {y = y} h e t) = (c ≡ y) ⊎ Through c h
 -- right-maximal: no chain through the match goes on, that is, each of them ends there
 pub record RightMaximal (b : ℕ) (hit : Cell → Bool) (c : Cell) : Type 0 where
   pub ends-here : (p y : Cell) (n : ℕ) (h : Chain b hit p y n) → Through c h → y ≡ c
+
+-- ---- CR 3: "does the second tie rule ever decide?"
+
+-- "left extensions of one match": x is a match, and a left extension of c
+pub record LeftExtension (b : ℕ) (hit : Cell → Bool) (c x : Cell) : Type 0 where
+  pub is-match : T (hit x)
+  pub extends : T (leftExtension b x c)
+
+-- "one lies at or beyond the other in both sequences": y lies so seen from x
+pub record AtOrBeyond (x y : Cell) : Type 0 where
+  pub rows : x .row ≤ y .row
+  pub columns : x .column ≤ y .column
+
+-- the tie rule without its last words, "then the smaller row"
+pub data PreferredByColumn (x : Cell) (w : ℕ) (y : Cell) (v : ℕ) : Type 0 where
+  weighs-more : v < w → PreferredByColumn x w y v
+  lies-left : v ≡ w → x .column < y .column → PreferredByColumn x w y v
+  is-itself : x ≡ y → PreferredByColumn x w y v
+
+-- and the predecessor of c by it
+pub record PredecessorByColumn (b : ℕ) (hit : Cell → Bool) (c x : Cell) : Type 0 where
+  pub left : LeftExtension b hit c x
+  pub weight : ℕ
+  pub heaviest : Heaviest b hit x weight
+  pub first : (y : Cell) (v : ℕ) → LeftExtension b hit c y → Heaviest b hit y v → PreferredByColumn x weight y v

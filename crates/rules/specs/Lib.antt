@@ -1,4 +1,4 @@
--- What a reader must believe, in the order and the words of document 01, with document 02's CR 1 and CR 2 where they belong.
+-- What a reader must believe, in the order and the words of document 01, with document 02's CR 1 to CR 3 where they belong.
 pub mod Lists
 pub mod Letters
 pub mod Places

@@ -188,6 +188,18 @@ impl Job {
         unbeaten.map_or(of, |it| it.start)
     }
 
+    /// The left extensions of a match two by two, the one in the smaller row
+    /// first, or the one further left in a row.
+    fn pairs_before(&self, found: &[Found], of: Place) -> Vec<(Found, Found)> {
+        let extends = |it: &&Found| self.is_left_extension(it.at, of);
+        let before: Vec<Found> = found.iter().filter(extends).copied().collect();
+        let mut pairs = Vec::new();
+        for (at, &one) in before.iter().enumerate() {
+            pairs.extend(before[at + 1..].iter().map(|&other| (one, other)));
+        }
+        pairs
+    }
+
     fn is_closed(&self, matches: &[Place], at: Place) -> bool {
         !matches.iter().any(|&of| self.is_left_extension(at, of))
     }
@@ -463,4 +475,26 @@ fn what_is_closed_was_closed_before() {
         }
     }
     assert!(kept > 1_000 && gone > 1_000, "{kept} kept, {gone} gone");
+}
+
+/// Change request 3: of two left extensions of one match the one at or beyond
+/// the other weighs more. Of two that weigh the same, the one in the smaller
+/// column so has the larger row, and the smaller row never decides.
+#[test]
+fn the_smaller_row_never_decides() {
+    let (mut farther, mut tied) = (0, 0);
+    for seed in 30_001..=31_000 {
+        let job = random_job(seed, 12);
+        let found = job.find(false);
+        for (one, other) in found.iter().flat_map(|it| job.pairs_before(&found, it.at)) {
+            let is_beyond = one.at.1 <= other.at.1;
+            let is_tied = one.weight == other.weight;
+            assert!(!is_beyond || one.weight < other.weight, "seed {seed}");
+            assert!(!is_tied || one.at.1 > other.at.1, "seed {seed}");
+            farther += u32::from(is_beyond);
+            tied += u32::from(is_tied);
+        }
+    }
+    let enough = farther > 1_000 && tied > 1_000;
+    assert!(enough, "{farther} farther, {tied} tied");
 }
