@@ -76,6 +76,7 @@ module _ (b : ℕ) (c : Cell) (ws : List Record) where
       go (some x) (some y) s f t g = ap some (one x y (s .here) (t .here) (even x y (g x s) (f y t)))
 
   module _ (w : Known b c ws) where
+    -- a record that is near, as CR 3 speaks of it
     weighs : (x : Record) → Near x → Heaviest b (w .hit) (x .cell) (x .weight)
     weighs x n = w .heaviest x (n .here)
 

@@ -15,6 +15,7 @@ use Rattle.rules.proofs.LeftExtensions.{same-cell}
 use Rattle.rules.proofs.Weights.{Right, sweep-right}
 use Rattle.rules.proofs.Listings.{any-has, any-some}
 
+-- x and y have the same row and column
 unfoldable sameCell : Cell → Cell → Bool
 sameCell x y = eqb (x .row) (y .row) && eqb (x .column) (y .column)
 
@@ -31,9 +32,10 @@ module _ (cells : List Cell) where
       let k = simp (sameCell, tests) at e in
       subst⁻¹ (λ (z : Cell). List·Memᴰ z cells) (same-cell (k .0) (k .1)) m
 
-  among-has : (y : Cell) → List·Memᴰ y cells → T (among y)
+  pub among-has : (y : Cell) → List·Memᴰ y cells → T (among y)
   unfolding among sameCell
   among-has y m = any-has (sameCell y) cells y m (simp (sameCell, tests) (refl, refl))
 
+  -- each record has the heaviest weight of any chain of these, reached from its start
   pub records-right : (b : ℕ) → Ordered cells → (x : Record) → List·Memᴰ x (recordsFrom b [] cells) → Right b among x
   records-right b o = sweep-right b among cells [] (λ x m. absurd (List·Memᴰ·not-nil m)) (λ y h. inr (among-in y h)) among-has o

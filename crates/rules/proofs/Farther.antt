@@ -4,17 +4,17 @@ use mathlib.Core.Path.{_≡_, refl, sym, ap, subst}
 use mathlib.Core.Logic.{_⊎_, inl, inr, _↔_}
 use mathlib.Core.Bool.{Bool}
 use mathlib.Core.List.{List, List·Memᴰ}
-use Prim.Native.Nat.{ℕ, zero, suc, _+_, _≤_, _<_}
+use Prim.Native.Nat.{ℕ, suc, _+_, _≤_, _<_}
 use native.Mathlib.Omega.{arith}
 use lib.Dec.{T}
 use Rattle.rules.specs.declared.Settings.{Settings}
 use Rattle.rules.specs.Matches.{Cell, cell, isMatch}
-use Rattle.rules.specs.Chains.{Chain, one, more, Heaviest, Preferred, heavier, smaller-column, smaller-row, same-one, Predecessor, LeftExtension, AtOrBeyond, PreferredByColumn, weighs-more, lies-left, is-itself, PredecessorByColumn}
+use Rattle.rules.specs.Chains.{more, Heaviest, Preferred, heavier, smaller-column, smaller-row, same-one, Predecessor, LeftExtension, AtOrBeyond, PreferredByColumn, weighs-more, lies-left, is-itself, PredecessorByColumn}
 use Rattle.rules.specs.Records.{Record}
 use Rattle.rules.specs.Rooms.{held, Held}
 use Rattle.rules.proofs.Tests.{Three, three, below, equal, above}
 use Rattle.rules.proofs.LeftExtensions.{Extends, extend-facts, facts-extend, same-cell}
-use Rattle.rules.proofs.Weights.{chain-grown}
+use Rattle.rules.proofs.Weighed.{weighed}
 use Rattle.rules.proofs.Listings.{held-in}
 
 -- ---- the theorem that the rest is derived from
@@ -58,29 +58,27 @@ module _ {b : ℕ} {hit : Cell → Bool} {c x y : Cell} (lx : LeftExtension b hi
   pub nearest-column : x .row ≡ y .row → x .column ≤ y .column → (v < w) ⊎ (x ≡ y)
   nearest-column e h = overtaken (record { rows = omega arith; columns = h })
 
-  -- one that weighs as much as another and has the smaller column has the larger row
+  -- of two that weigh the same neither lies at or beyond the other
+  abreast : v ≡ w → ¬ (x ≡ y) → ¬ AtOrBeyond x y
+  abreast e two far = let less = farther-heavier lx ly two far hx hy in omega arith
+
+  -- and the one in the smaller column has the larger row
   pub larger-row : v ≡ w → x .column < y .column → y .row < x .row
-  larger-row e h = let lower : ¬ (x .row ≤ y .row) = λ g. lighter (overtaken (record { rows = g; columns = omega arith })) in omega arith
-    where
-      lighter : (v < w) ⊎ (x ≡ y) → ⊥
-      lighter (inl k) = omega arith
-      lighter (inr k) = omega (arith, ap (λ (z : Cell). z .column) k)
+  larger-row e h =
+      let lower : ¬ (x .row ≤ y .row) = λ g. abreast e (λ k. omega (arith, ap (λ (z : Cell). z .column) k)) (record { rows = g; columns = omega arith }) in
+      omega arith
 
 -- ---- the second tie rule
 
 module _ {b : ℕ} {hit : Cell → Bool} {c x y : Cell} (lx : LeftExtension b hit c x) (ly : LeftExtension b hit c y) where
   -- two with equal weights never share a column
   pub columns-apart : ¬ (x ≡ y) → {w : ℕ} → Heaviest b hit x w → Heaviest b hit y w → ¬ (x .column ≡ y .column)
-  columns-apart two {w} hx hy e = go (three (x .row) (y .row))
+  columns-apart two hx hy e = go (three (x .row) (y .row))
     where
-      lighter : {z t : Cell} → ¬ (z ≡ t) → (w < w) ⊎ (z ≡ t) → ⊥
-      lighter n (inl h) = omega arith
-      lighter n (inr k) = n k
-
       go : Three (x .row) (y .row) → ⊥
-      go (below h) = lighter two (latest-row lx ly hx hy e (omega arith))
+      go (below h) = abreast lx ly hx hy refl two (record { rows = omega arith; columns = omega arith })
       go (equal h) = two (same-cell h e)
-      go (above h) = lighter (λ k. two (sym k)) (latest-row ly lx hy hx (sym e) (omega arith))
+      go (above h) = abreast ly lx hy hx refl (λ k. two (sym k)) (record { rows = omega arith; columns = omega arith })
 
   -- so the smaller row never decides
   pub by-column : {w v : ℕ} → Heaviest b hit x w → Heaviest b hit y v → Preferred x w y v → PreferredByColumn x w y v
@@ -119,26 +117,18 @@ module _ {b : ℕ} {hit : Cell → Bool} {c x : Cell} where
 
 -- ---- the predecessor
 
--- a chain's weight is bounded by its end, so a match cannot be without a heaviest one
-heaviest-is : {b : ℕ} {hit : Cell → Bool} {p y : Cell} (fuel : ℕ) {n : ℕ} → Chain b hit p y n → y .row + y .column + 1 ≤ n + fuel → ¬ ((w : ℕ) → ¬ Heaviest b hit y w)
-heaviest-is {b} {hit} {p} {y} zero {n} h l none =
-    none n (record { first = p; reached = h; greatest = λ q m k. (let g = chain-grown k .weight in omega arith) })
-heaviest-is {b} {hit} {p} {y} (suc fuel) {n} h l none =
-    none n (record { first = p; reached = h; greatest = λ q m k. (let not-more : ¬ (n < m) = λ g. heaviest-is fuel k (omega arith) none in omega arith) })
-
 module _ {b : ℕ} {hit : Cell → Bool} {c x y : Cell} (p : Predecessor b hit c x) (ly : LeftExtension b hit c y) where
   -- a left extension at or before another in both sequences is never the predecessor
   pub not-overtaken : ¬ (x ≡ y) → ¬ AtOrBeyond x y
-  not-overtaken two far = heaviest-is (y .row + y .column) (one (ly .is-match)) (omega arith) denied
+  not-overtaken two far =
+      let (w, hy) = weighed b hit y (ly .is-match) in
+      lighter (farther-heavier (predecessor-left p) ly two far (p .heaviest) hy) (p .first y w (ly .is-match) (ly .extends) hy)
     where
-      lighter : (w : ℕ) → p .weight < w → Preferred x (p .weight) y w → ⊥
-      lighter w h (heavier g) = omega arith
-      lighter w h (smaller-column e g) = omega arith
-      lighter w h (smaller-row e k g) = omega arith
-      lighter w h (same-one er ec) = two (same-cell er ec)
-
-      denied : (w : ℕ) → ¬ Heaviest b hit y w
-      denied w hy = lighter w (farther-heavier (predecessor-left p) ly two far (p .heaviest) hy) (p .first y w (ly .is-match) (ly .extends) hy)
+      lighter : {w : ℕ} → p .weight < w → Preferred x (p .weight) y w → ⊥
+      lighter h (heavier g) = omega arith
+      lighter h (smaller-column e g) = omega arith
+      lighter h (smaller-row e k g) = omega arith
+      lighter h (same-one er ec) = two (same-cell er ec)
 
   -- of the matches of one row only the nearest on the left can be
   pub nearest-of-row : x .row ≡ y .row → y .column ≤ x .column

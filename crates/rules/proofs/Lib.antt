@@ -13,6 +13,7 @@ pub mod Jobs
 pub mod Bounds
 pub mod Listings
 pub mod Among
+pub mod Weighed
 pub mod Farther
 pub mod Maximal
 pub mod Strands

@@ -16,7 +16,7 @@ use Rattle.rules.specs.Records.{Record, records}
 use Rattle.rules.specs.Listing.{closed, firstSpan, secondSpan, longEnough, isListed, listing, ends, Listed, Before, Ordered}
 use Rattle.rules.specs.Rooms.{inRun, held, Held}
 use Rattle.rules.proofs.Tests.{tests, T-and, T-leb, by-test, tested}
-use Rattle.rules.proofs.MatchList.{matches-ordered}
+use Rattle.rules.proofs.MatchList.{ordered-map, Inside, matches-ordered}
 use Rattle.rules.proofs.Weights.{chain-hit}
 use Rattle.rules.proofs.Starts.{heaviest-one, start-one}
 use Rattle.rules.proofs.Jobs.{match-in, match-has, match-inside, record-cells, record-has, weight-heaviest, start-right}
@@ -78,19 +78,6 @@ ends-before : (k : ℕ) (x y : Cell) → 1 ≤ x .row → 1 ≤ x .column → 1 
 unfolding ends
 ends-before k x y p q r h =
     record { row-le = omega (arith, h .row-le); column-lt = λ e. omega (arith, h .column-lt (omega (arith, h .row-le))) }
-
-ends-ordered : (k : ℕ) (xs : List Record) → ((x : Record) → List·Memᴰ x xs → (1 ≤ x .cell .row) × (1 ≤ x .cell .column))
-    → Ordered (map (λ (x : Record). x .cell) xs) → Ordered (map (λ (x : Record). ends k (x .cell)) xs)
-ends-ordered k [] p o = tt
-ends-ordered k (x ∷ xs) p o =
-    (λ y m. later y (Memᴰ·of-map (λ (r : Record). ends k (r .cell)) xs m), ends-ordered k xs (λ r m. p r (List·Memᴰ·tail m)) (o .1))
-  where
-    later : (y : Cell) → (r : Record) × List·Memᴰ r xs × (ends k (r .cell) ≡ y) → Before (ends k (x .cell)) y
-    later y g =
-        let h = p x (List·Memᴰ·head refl) in
-        let q = p (g .0) (List·Memᴰ·tail (g .1)) in
-        subst (Before (ends k (x .cell))) (g .2)
-        (ends-before k (x .cell) (g .0 .cell) (h .0) (h .1) (q .0) (o .0 (g .0 .cell) (Memᴰ·map (λ (r : Record). r .cell) (g .1))))
 
 -- ---- the listing of a job
 
@@ -156,9 +143,12 @@ module _ (c : Settings) (s t : List ℕ) where
   pub listing-ordered : Ordered (map (λ (x : Record). ends (c .k) (x .cell)) (listing c s t))
   unfolding listing
   listing-ordered =
-      ends-ordered (c .k) (listing c s t)
-      (λ x m. let h = match-inside c s t (x .cell) (listing-in x m .is-match) in (h .row-from, h .column-from))
+      ordered-map (λ (x : Record). x .cell) (λ (x : Record). ends (c .k) (x .cell)) (listing c s t)
+      (λ x y mx my. let h = inside x mx in ends-before (c .k) (x .cell) (y .cell) (h .row-from) (h .column-from) (inside y my .row-from))
       (keep-ordered (isListed c (matches c s t)) (records c s t) records-ordered)
+    where
+      inside : (x : Record) → List·Memᴰ x (listing c s t) → Inside (isMatch c s t) (places (c .k) t) (places (c .k) s) (x .cell)
+      inside x m = match-inside c s t (x .cell) (listing-in x m .is-match)
 
   -- ---- the stopped room
 

@@ -2,7 +2,7 @@
 use mathlib.Core.Path.{_≡_, refl, ap, subst, subst⁻¹}
 use mathlib.Core.Logic.{_⊎_, inl, inr}
 use mathlib.Core.Bool.{Bool, cond}
-use mathlib.Core.List.{List, [], _∷_, _++_, List·Memᴰ, List·Memᴰ·head, List·Memᴰ·tail, List·Memᴰ·not-nil, List·Memᴰ·append-cases, Memᴰ·append-left, Memᴰ·append-right, List·Memᴰ·eq-of-singleton, Memᴰ·cast}
+use mathlib.Core.List.{List, [], _∷_, _++_, map, List·Memᴰ, List·Memᴰ·head, List·Memᴰ·tail, List·Memᴰ·not-nil, List·Memᴰ·append-cases, Memᴰ·append-left, Memᴰ·append-right, List·Memᴰ·eq-of-singleton, Memᴰ·cast, Memᴰ·map, Memᴰ·of-map}
 use Prim.Native.Nat.{ℕ, zero, suc, _≤_}
 use native.Mathlib.Nat.{le-trans, not-suc-le-zero}
 use native.Mathlib.Omega.{arith}
@@ -20,6 +20,16 @@ ordered-append (x ∷ xs) ys o p h =
     go : (y : Cell) → List·Memᴰ y xs ⊎ List·Memᴰ y ys → Before x y
     go y (inl m) = o .0 y m
     go y (inr m) = h x y (List·Memᴰ·head refl) m
+
+-- what stands in order does so too where each element is read as another cell, if that keeps which stands before which
+pub ordered-map : {A : Type 0} (f g : A → Cell) (xs : List A) → ((x y : A) → List·Memᴰ x xs → List·Memᴰ y xs → Before (f x) (f y) → Before (g x) (g y))
+    → Ordered (map f xs) → Ordered (map g xs)
+ordered-map f g [] h o = tt
+ordered-map {A} f g (x ∷ xs) h o =
+    (λ y m. go y (Memᴰ·of-map g xs m), ordered-map f g xs (λ u v m n. h u v (List·Memᴰ·tail m) (List·Memᴰ·tail n)) (o .1))
+  where
+    go : (y : Cell) → (z : A) × List·Memᴰ z xs × (g z ≡ y) → Before (g x) y
+    go y (z, m, e) = subst (Before (g x)) e (h x z (List·Memᴰ·head refl) (List·Memᴰ·tail m) (o .0 (f z) (Memᴰ·map f m)))
 
 module _ (hit : Cell → Bool) where
   -- what a place of a row adds

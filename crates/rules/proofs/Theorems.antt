@@ -25,6 +25,7 @@ use Rattle.rules.proofs.Kmers.{kmer-of, packed-same, match-by-code}
 use Rattle.rules.proofs.Starts.{heaviest-one, predecessor-one, start-one}
 use Rattle.rules.proofs.Jobs.{match-in, match-has, record-cells, weight-heaviest, start-right, start-of-heaviest}
 use Rattle.rules.proofs.Listings.{listing-in, listing-has, listing-ordered, held-in, held-has, held-ordered}
+use Rattle.rules.proofs.Weighed.{weighed}
 use Rattle.rules.proofs.Farther.{farther-heavier, latest-row, nearest-column, larger-row, columns-apart, by-column, preferred-by-column, row-left-out, not-overtaken, nearest-of-row, latest-held}
 use Rattle.rules.proofs.Maximal.{closed-offsets, closed-maximal, every-carried, listing-left}
 use Rattle.rules.proofs.Bounds.{W-bound, links-bound, no-matches, no-links}
@@ -135,6 +136,10 @@ module _ (c : Settings) (first second : List ℕ) where
   none-at-one e = (no-matches c first second e, no-links c first second e)
 
 -- ---- does the second tie rule ever decide? (CR 3)
+
+-- every match has a heaviest weight, so that what follows speaks of all of them
+pub every-match-weighs : (b : ℕ) (hit : Cell → Bool) (y : Cell) → T (hit y) → (w : ℕ) × Heaviest b hit y w
+every-match-weighs = weighed
 
 module _ (b : ℕ) (hit : Cell → Bool) (c x y : Cell) (lx : LeftExtension b hit c x) (ly : LeftExtension b hit c y) where
   -- "two left extensions of one match with equal heaviest weights never share a column"
