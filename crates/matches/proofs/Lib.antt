@@ -1,4 +1,6 @@
 pub mod Links
+pub mod Counting
+pub mod Striking
 pub mod Totals
 pub mod Rows
 pub mod Walking

@@ -2,8 +2,8 @@
 use mathlib.Core.Path.{_≡_}
 use mathlib.Core.Bool.{cond}
 use mathlib.Core.List.{List}
-use Prim.Native.Nat.{ℕ, zero, suc, _+_, _<_, _≤_}
-use lib.Dec.{ltb}
+use Prim.Native.Nat.{ℕ, suc, _+_, _-_, _<_, _≤_, min}
+use lib.Dec.{leb}
 use lib.ListN.{getD, length}
 use Rattle.order.specs.Counts.{countIn}
 use Rattle.owners.specs.Owners.{ownOf}
@@ -19,18 +19,41 @@ pub record Zeros (l : List ℕ) : Type 0 where
 pub record Upto (l : List ℕ) (n m : ℕ) : Type 0 where
   pub upto : (p : ℕ) → p < n → getD l p 0 ≤ m
 
--- count has one more at index q for each of the first n that is owned by column q + 1
-pub record Tallied (own : List ℕ) (n : ℕ) (count₀ count : List ℕ) : Type 0 where
+-- one more, unless the count has passed a
+unfoldable pub countOn : ℕ → ℕ → ℕ
+countOn a v = cond (leb v a) (v + 1) v
+
+-- count has s q more at each index q, until it has passed a: a + 1 stands for every count above a
+pub record Summed (s : ℕ → ℕ) (a : ℕ) (count₀ count : List ℕ) : Type 0 where
   pub long : length count ≡ length count₀
-  pub sums : (q : ℕ) → q < length count → getD count q 0 ≡ getD count₀ q 0 + countIn own (suc q) n
+  pub each : (q : ℕ) → q < length count → getD count q 0 ≡ min (getD count₀ q 0 + s q) (a + 1)
 
--- an owner, and 0 where its count is above a
-unfoldable pub capOf : List ℕ → ℕ → ℕ → ℕ
-capOf count a zero = 0
-capOf count a (suc q) = cond (ltb a (getD count q 0)) 0 (suc q)
+-- so for the first n places: index q has one more for each that is owned by column q + 1
+pub record Tallied (own : List ℕ) (n a : ℕ) (count₀ count : List ℕ) : Type 0 where
+  pub sums : Summed (λ q. countIn own (suc q) n) a count₀ count
 
--- the first n are capped, and the others are as they were
+-- each of the first n numbers is what f says, and the others are as they were
+pub record Rewritten (f : ℕ → ℕ) (l₀ l : List ℕ) (n : ℕ) : Type 0 where
+  pub long : length l ≡ length l₀
+  pub each : (p : ℕ) → p < n → getD l p 0 ≡ f p
+  pub others : (p : ℕ) → n ≤ p → getD l p 0 ≡ getD l₀ p 0
+
+-- a number, and 0 where its count is above a
+unfoldable pub unlessAbove : ℕ → ℕ → ℕ → ℕ
+unlessAbove a m e = cond (leb m a) e 0
+
+-- an owner whose count, with the rows before it, has passed a is 0
+unfoldable pub struckAt : List ℕ → ℕ → List ℕ → ℕ → ℕ
+unfolding countIn unlessAbove
+struckAt count a firsts p = let e = getD firsts p 0 in unlessAbove a (getD count (e - 1) 0 + countIn firsts e p) e
+
+pub record Struck (count : List ℕ) (a : ℕ) (firsts₀ firsts : List ℕ) (n : ℕ) : Type 0 where
+  pub rows : Rewritten (struckAt count a firsts₀) firsts₀ firsts n
+
+-- an owner whose count is above a is 0
+unfoldable pub cappedAt : List ℕ → ℕ → List ℕ → ℕ → ℕ
+unfolding unlessAbove
+cappedAt count a firsts p = let e = getD firsts p 0 in unlessAbove a (getD count (e - 1) 0) e
+
 pub record Capped (count : List ℕ) (a : ℕ) (firsts₀ firsts : List ℕ) (n : ℕ) : Type 0 where
-  pub long : length firsts ≡ length firsts₀
-  pub rows : (p : ℕ) → p < n → getD firsts p 0 ≡ capOf count a (getD firsts₀ p 0)
-  pub others : (p : ℕ) → n ≤ p → getD firsts p 0 ≡ getD firsts₀ p 0
+  pub rows : Rewritten (cappedAt count a firsts₀) firsts₀ firsts n

@@ -1,9 +1,10 @@
 //! The call `compare` itself, against the reference's.
 
 use crate::jobs::{Job, KINDS};
+use crate::lent::Lent;
 use crate::table::{self, bytes, count, duration, three_digits, times};
 use crate::timing::{medians_in_turn, ratio};
-use hornbeamlet::{Answer, Library, Settings, ENTRY, RECORD};
+use hornbeamlet::{Answer, Library, Settings};
 use std::time::Duration;
 
 /// The reference is left out where it would take longer than this.
@@ -51,9 +52,7 @@ pub fn measure(library: &Library, jobs: Vec<Job>) -> Vec<Call> {
     let mut lent: Vec<Lent> = jobs.iter().map(|job| Lent::new(library, job)).collect();
     let tasks = tasks(&jobs, &lent);
     let medians = medians_in_turn(&tasks, |task| match *task {
-        Task::Compare(at) => lent[at].run(&jobs[at], |job, work, list| {
-            library.compare(job.settings, &job.first, &job.second, work, list)
-        }),
+        Task::Compare(at) => lent[at].compare(library, &jobs[at]),
         Task::Need(at) => {
             let job = &jobs[at];
             let records = library.need(job.settings, &job.first, &job.second);
@@ -85,32 +84,6 @@ fn tasks(jobs: &[Job], lent: &[Lent]) -> Vec<Task> {
         .rev()
         .flat_map(|at| [Task::Need(at), Task::Compare(at)]);
     references.chain(library).collect()
-}
-
-/// The rooms of a job, just as large as it needs, and its answer.
-struct Lent {
-    work: Vec<u32>,
-    list: Vec<u32>,
-    answer: Answer,
-}
-
-impl Lent {
-    fn new(library: &Library, job: &Job) -> Lent {
-        let (settings, first, second) = (job.settings, &job.first, &job.second);
-        let records = library.need(settings, first, second);
-        let mut work = vec![0; RECORD * records as usize];
-        let short = library.compare(settings, first, second, &mut work, &mut []);
-        let mut list = vec![0; ENTRY * short.detail as usize];
-        let answer = library.compare(settings, first, second, &mut work, &mut list);
-        assert_eq!(answer.number, 0, "{} was refused", job.name);
-        Lent { work, list, answer }
-    }
-
-    /// One run. Whoever is asked, the answer is always the same.
-    fn run(&mut self, job: &Job, ask: impl Fn(&Job, &mut [u32], &mut [u32]) -> Answer) {
-        let answer = ask(job, &mut self.work, &mut self.list);
-        assert_eq!(answer, self.answer, "{}: two answers", job.name);
-    }
 }
 
 /// The reference's answer in the library's terms.
@@ -151,12 +124,16 @@ pub fn print(title: &str, calls: &[Call]) {
 fn row(call: &Call) -> Vec<String> {
     let letters = call.job.first.len() + call.job.second.len();
     let nanoseconds = call.time.as_nanos() as f64;
+    let a_match = match call.answer.matches {
+        0 => "-".to_string(),
+        matches => three_digits(nanoseconds / matches as f64),
+    };
     let reference = call.reference.map(|taken| times(ratio(taken, call.time)));
     vec![
         call.job.name.clone(),
         duration(call.time),
         three_digits(nanoseconds / letters as f64),
-        three_digits(nanoseconds / call.answer.matches as f64),
+        a_match,
         times(ratio(call.need, call.time)),
         reference.unwrap_or_else(|| "skipped".to_string()),
         count(call.answer.matches),

@@ -2,6 +2,7 @@
 
 use hornbeamlet::{Settings, BOTH, FORWARD};
 use reference::random::Random;
+use std::collections::HashMap;
 
 /// The longest sequence that is accepted.
 const LONGEST: usize = 16_384;
@@ -32,6 +33,36 @@ pub struct Job {
     pub second: Vec<u8>,
 }
 
+impl Job {
+    /// The share of the first sequence's places whose k-mer occurs more than so
+    /// many times in both sequences together, the second as it stands.
+    pub fn share_above(&self, total: u32) -> f64 {
+        let k = self.settings.k as usize;
+        let totals = totals(&[&self.first, &self.second], k);
+        let above = |kmer: &&[u8]| totals.get(kmer).is_some_and(|&occurs| occurs > total);
+        let places = self.first.windows(k);
+        places.clone().filter(above).count() as f64 / places.len() as f64
+    }
+}
+
+/// How often each k-mer occurs in all of the sequences together.
+fn totals<'a>(sequences: &[&'a [u8]], k: usize) -> HashMap<&'a [u8], u32> {
+    let words = sequences.iter().flat_map(|sequence| sequence.windows(k));
+    let mut totals = HashMap::new();
+    for kmer in words.filter(|word| !word.contains(&b'N')) {
+        *totals.entry(kmer).or_default() += 1;
+    }
+    totals
+}
+
+/// The jobs on which two libraries are compared, in groups to be measured each
+/// on its own: those of the last take a second, and all others far less.
+pub fn compared() -> [Vec<Job>; 2] {
+    let of_two_letters = |job: &Job| job.settings.k == 5;
+    let (long, short) = worst().into_iter().partition(of_two_letters);
+    [[longest(), over_the_cap(), short].concat(), long]
+}
+
 /// Pairs of three lengths, and of every kind at each length: a sequence and a
 /// changed copy of it. The longest of the first kind comes once more at the end,
 /// over both strands.
@@ -41,21 +72,32 @@ pub fn ordinary() -> Vec<Job> {
     for (letters, shown) in [(1_024, "1,024"), (4_096, "4,096"), (LONGEST, "16,384")] {
         for (kind, differing) in KINDS {
             let first = match kind {
-                "repeats" => repeat_rich(&mut random, letters),
+                "repeats" => repeat_rich(&mut random, letters, &OF_EIGHT),
                 _ => random.letters(b"ACGT", letters),
             };
-            let mut second = random.mutated(&first, differing);
-            second.truncate(LONGEST);
-            jobs.push(Job {
-                name: format!("{shown}, {kind}"),
-                settings: ORDINARY,
-                first,
-                second,
-            });
+            let name = format!("{shown}, {kind}");
+            jobs.push(with_a_copy(&mut random, name, first, differing));
         }
     }
     jobs.push(over_both_strands(&jobs[jobs.len() - KINDS.len()]));
     jobs
+}
+
+/// The ordinary jobs of the greatest length, the one over both strands included.
+fn longest() -> Vec<Job> {
+    ordinary().split_off(2 * KINDS.len())
+}
+
+/// A sequence and a copy of it in which so many letters of a thousand differ.
+fn with_a_copy(random: &mut Random, name: String, first: Vec<u8>, differing: usize) -> Job {
+    let mut second = random.mutated(&first, differing);
+    second.truncate(LONGEST);
+    Job {
+        name,
+        settings: ORDINARY,
+        first,
+        second,
+    }
 }
 
 fn over_both_strands(job: &Job) -> Job {
@@ -65,21 +107,72 @@ fn over_both_strands(job: &Job) -> Job {
     job
 }
 
-/// Half of the letters in repeats, eight nearly equal copies of 64 letters for
-/// every 1,024, strewn among letters that occur once.
-fn repeat_rich(random: &mut Random, letters: usize) -> Vec<u8> {
+/// Repeats: families of nearly equal copies, strewn among letters that occur
+/// once.
+struct Families {
+    /// How many copies a family has.
+    copies: usize,
+    /// How many letters the copied unit has.
+    unit: usize,
+    /// How many letters of a thousand differ in a copy.
+    differing: usize,
+    /// For each copy, how many letters that occur once.
+    once: usize,
+}
+
+/// Half of the letters in repeats. A k-mer of theirs occurs some twelve times in
+/// a sequence and its copy together.
+const OF_EIGHT: Families = Families {
+    copies: 8,
+    unit: 64,
+    differing: 20,
+    once: 64,
+};
+
+/// Three quarters of the letters in repeats. A k-mer of theirs occurs over a
+/// hundred times in a sequence and its copy together.
+const OF_SIXTY_FOUR: Families = Families {
+    copies: 64,
+    unit: 96,
+    differing: 10,
+    once: 32,
+};
+
+fn repeat_rich(random: &mut Random, letters: usize, families: &Families) -> Vec<u8> {
+    let of_a_family = families.copies * (families.unit + families.once);
     let mut pieces = Vec::new();
-    for _ in 0..letters / 1_024 {
-        let unit = random.letters(b"ACGT", 64);
-        for _ in 0..8 {
-            pieces.push(random.mutated(&unit, 20));
-            pieces.push(random.letters(b"ACGT", 64));
+    for _ in 0..letters / of_a_family {
+        let unit = random.letters(b"ACGT", families.unit);
+        for _ in 0..families.copies {
+            pieces.push(random.mutated(&unit, families.differing));
+            pieces.push(random.letters(b"ACGT", families.once));
         }
     }
     random.shuffle(&mut pieces);
     let mut sequence = pieces.concat();
     sequence.resize(letters, b'A');
     sequence
+}
+
+/// Pairs with k-mers over the repeat cap, which no ordinary pair has: the longest
+/// of those with repeats once more under a smaller cap, a pair as rich in repeats
+/// as sequences get, and one that has no k-mer under the cap, so that there is no
+/// match at all.
+pub fn over_the_cap() -> Vec<Job> {
+    let mut random = Random::new(3);
+    let mut repeats = longest().swap_remove(KINDS.len() - 1);
+    repeats.name += ", a 8";
+    repeats.settings.a = 8;
+    let first = repeat_rich(&mut random, LONGEST, &OF_SIXTY_FOUR);
+    let name = "16,384, families of 64".to_string();
+    let families = with_a_copy(&mut random, name, first, 10);
+    let unused = Job {
+        name: "16,384, all over the cap".to_string(),
+        settings: Settings { k: 5, ..ORDINARY },
+        first: all_words(&mut random),
+        second: all_words(&mut random),
+    };
+    vec![repeats, families, unused]
 }
 
 /// Jobs that ask for as much room or time as any that is accepted, or nearly.
@@ -187,15 +280,6 @@ fn kmer_and_n(packed: u64, k: u32) -> Vec<u8> {
 #[cfg(test)]
 mod tests {
     use super::*;
-    use std::collections::HashMap;
-
-    fn totals(sequence: &[u8], k: usize) -> HashMap<&[u8], usize> {
-        let mut totals = HashMap::new();
-        for word in sequence.windows(k) {
-            *totals.entry(word).or_default() += 1;
-        }
-        totals
-    }
 
     #[test]
     fn the_worst_jobs_are_as_their_names_say() {
@@ -203,11 +287,37 @@ mod tests {
             assert!(job.first.len() <= LONGEST && job.second.len() <= LONGEST);
             if job.settings.k == 5 {
                 for sequence in [&job.first, &job.second] {
-                    let totals = totals(sequence, 5);
+                    let totals = totals(&[sequence], 5);
                     assert_eq!(totals.len(), 32, "{}", job.name);
                     assert!(totals.values().all(|total| (508..=512).contains(total)));
                 }
             }
         }
+    }
+
+    #[test]
+    fn no_ordinary_job_is_over_the_cap() {
+        for job in ordinary() {
+            assert_eq!(job.share_above(job.settings.a), 0.0, "{}", job.name);
+        }
+    }
+
+    /// Where repeats are over the cap, k-mers at their ends and at a changed
+    /// letter are not.
+    #[test]
+    fn the_jobs_over_the_cap_are_as_their_names_say() {
+        let jobs = over_the_cap();
+        let names: Vec<&str> = jobs.iter().map(|job| job.name.as_str()).collect();
+        let kinds = ["repeats, a 8", "families of 64", "all over the cap"];
+        assert_eq!(names, kinds.map(|kind| format!("16,384, {kind}")));
+        for job in &jobs {
+            assert!(job.first.len() == LONGEST && job.second.len() <= LONGEST);
+        }
+        let [repeats, families, unused] = [0, 1, 2].map(|at| &jobs[at]);
+        assert!((0.3..0.5).contains(&repeats.share_above(8)));
+        assert!((0.6..0.75).contains(&families.share_above(20)));
+        assert!(families.share_above(100) > 0.55);
+        let totals = totals(&[&unused.first, &unused.second], 5);
+        assert!(totals.len() == 32 && totals.values().all(|&total| total > 1_000));
     }
 }

@@ -1,34 +1,60 @@
 //! `cargo run --release -p bench`: one run, all figures. Times are medians of
 //! many runs; what one program takes is given as a multiple of another's, both
 //! measured here and now, since only such ratios carry over.
+//!
+//! `bench --before PATH` compares the library with an earlier one instead, which
+//! the `bench` at the path is linked with: see tools/bench-before. `bench
+//! --serve` is either side of that.
 
 #![forbid(unsafe_code)]
 
 mod calls;
 mod jobs;
+mod lent;
 mod processes;
+mod server;
 mod table;
 mod timing;
+mod versions;
 
 use hornbeamlet::with_library;
 use processes::Programs;
+use std::env;
+use std::ffi::OsString;
+use std::io::{stdin, stdout};
+use std::path::Path;
 use std::process::ExitCode;
 
 fn main() -> ExitCode {
-    let programs = match Programs::find() {
-        Ok(programs) => programs,
+    let words: Vec<OsString> = env::args_os().skip(1).collect();
+    let end = match words.as_slice() {
+        [] => print_all(),
+        [word] if word == server::SERVE => {
+            with_library(|library| server::serve(library, stdin().lock(), stdout()))
+        }
+        [word, path] if word == "--before" => versions::print(Path::new(path)),
+        _ => Err("usage: bench [--before PATH | --serve]".to_string()),
+    };
+    match end {
+        Ok(()) => ExitCode::SUCCESS,
         Err(complaint) => {
             eprintln!("bench: {complaint}");
-            return ExitCode::from(2);
+            ExitCode::from(2)
         }
-    };
+    }
+}
+
+fn print_all() -> Result<(), String> {
+    let programs = Programs::find()?;
     with_library(|library| {
         let ordinary = calls::measure(library, jobs::ordinary());
         calls::print("The call `compare` on ordinary pairs", &ordinary);
         calls::print_growth(&ordinary);
         processes::print(&programs, &ordinary);
+        let over = calls::measure(library, jobs::over_the_cap());
+        calls::print("The call `compare` where k-mers are over the cap", &over);
         let worst = calls::measure(library, jobs::worst());
         calls::print("The call `compare` on the worst jobs accepted", &worst);
     });
-    ExitCode::SUCCESS
+    Ok(())
 }

@@ -50,6 +50,11 @@ pub fn times(ratio: f64) -> String {
     three_digits(ratio) + " ×"
 }
 
+/// A share of the whole, in hundredths.
+pub fn percent(share: f64) -> String {
+    three_digits(100.0 * share) + " %"
+}
+
 /// A number of bytes in the unit that suits it.
 pub fn bytes(bytes: usize) -> String {
     match bytes {

@@ -10,20 +10,30 @@ const MOST: usize = 301;
 /// The median times of tasks that take turns, so that whatever else is
 /// going on meets all of them alike. A first round is not counted.
 pub fn medians_in_turn<T>(tasks: &[T], mut run: impl FnMut(&T)) -> Vec<Duration> {
-    tasks.iter().for_each(&mut run);
+    medians_of_rounds(|| tasks.iter().map(|task| time(|| run(task))).collect())
+}
+
+/// The same where a round does more than run its tasks one after the other: it
+/// gives the times of all, always in the same order.
+pub fn medians_of_rounds(mut round: impl FnMut() -> Vec<Duration>) -> Vec<Duration> {
+    let mut times = vec![Vec::new(); round().len()];
     let begun = Instant::now();
-    let mut times = vec![Vec::new(); tasks.len()];
-    for round in 0..MOST {
-        if round >= FEWEST && begun.elapsed() > ENOUGH {
+    for counted in 0..MOST {
+        if counted >= FEWEST && begun.elapsed() > ENOUGH {
             break;
         }
-        for (task, taken) in tasks.iter().zip(&mut times) {
-            let begun = Instant::now();
-            run(task);
-            taken.push(begun.elapsed());
+        for (taken, time) in times.iter_mut().zip(round()) {
+            taken.push(time);
         }
     }
     times.into_iter().map(median).collect()
+}
+
+/// The time of one run.
+pub fn time(run: impl FnOnce()) -> Duration {
+    let begun = Instant::now();
+    run();
+    begun.elapsed()
 }
 
 fn median(mut times: Vec<Duration>) -> Duration {

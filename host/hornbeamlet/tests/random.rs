@@ -1,8 +1,9 @@
 //! The library against the reference on random jobs: every answer, and both
 //! rooms whole, lent full of other numbers and at every size around the limits.
 //!
-//! HORNBEAMLET_JOBS, HORNBEAMLET_LONG_JOBS and HORNBEAMLET_DENSE_JOBS set how
-//! many jobs are run, HORNBEAMLET_SEED the seed of the first. A failure prints
+//! HORNBEAMLET_JOBS, HORNBEAMLET_LONG_JOBS, HORNBEAMLET_DENSE_JOBS and
+//! HORNBEAMLET_CAPPED_JOBS set how many jobs are run, HORNBEAMLET_SEED the seed of
+//! the first. A failure prints
 //! the seed of its job and the question, which `reference call` answers too.
 
 #![forbid(unsafe_code)]
@@ -15,7 +16,7 @@ use hornbeamlet::with_library;
 use jobs::Job;
 use reference::calls::{Calls, Reference};
 use reference::random::Random;
-use reference::Answer;
+use reference::{Answer, Settings};
 use std::collections::BTreeSet;
 use std::env;
 use std::fmt::Debug;
@@ -45,6 +46,42 @@ fn long_jobs_agree_with_the_reference() {
 #[test]
 fn dense_jobs_agree_with_the_reference() {
     compare_jobs(setting("HORNBEAMLET_DENSE_JOBS", 40), jobs::dense);
+}
+
+#[test]
+fn capped_jobs_agree_with_the_reference() {
+    compare_jobs(setting("HORNBEAMLET_CAPPED_JOBS", 3_000), jobs::capped);
+}
+
+/// Totals just the cap and one more, and totals that pass it in the second
+/// sequence alone and only with the first, each in many of the capped jobs.
+#[test]
+fn capped_jobs_have_totals_on_either_side_of_the_cap() {
+    let mut ways = [0; 4];
+    for seed in 1..=3_000 {
+        let Job {
+            settings: Settings { k, a, .. },
+            first,
+            second,
+        } = jobs::capped(&mut Random::new(seed));
+        let shared = first.windows(k as usize).filter(|it| !it.contains(&b'N'));
+        let totals = shared.map(|kmer| jobs::totals(kmer, [&first, &second]));
+        let totals: Vec<[usize; 2]> = totals.filter(|[_, columns]| *columns > 0).collect();
+        let any = |test: fn(usize, usize, usize) -> bool| {
+            let mut totals = totals.iter();
+            totals.any(|&[rows, columns]| test(rows, columns, a as usize))
+        };
+        let seen = [
+            any(|rows, columns, a| rows + columns == a),
+            any(|rows, columns, a| rows + columns == a + 1),
+            any(|_, columns, a| columns > a),
+            any(|rows, columns, a| columns <= a && rows + columns > a),
+        ];
+        for (way, seen) in ways.iter_mut().zip(seen) {
+            *way += u32::from(seen);
+        }
+    }
+    assert!(ways.iter().all(|&jobs| jobs >= 300), "{ways:?}");
 }
 
 fn setting(name: &str, default: u64) -> u64 {

@@ -4,7 +4,7 @@ use native.Mathlib.Omega.{arith}
 use lib.ListN.{length}
 use borrow.Author.Needs.{needs}
 use Rattle.matches.specs.Steps.{Capped}
-use Rattle.matches.proofs.Totals.{capped-start, capped-in, capped-none, capped-used, capped-unused, capped-end}
+use Rattle.matches.proofs.Striking.{capped-start, capped-in, capped-none, capped-used, capped-unused, capped-end}
 use Rattle.matches.proofs.cap.Statement.{statement}
 use Rattle.matches.proofs.cap.Tie as tie
 
@@ -58,7 +58,7 @@ loop-again : tie.Need-loop-again Inv-loop μ-loop
 loop-again c =
     let read = c .before .before .before in
     let l = read .before .before .before in
-    (search needs, capped-unused (read .wide .ensures .0) (l .loop .inv .1) (omega arith) (c .before .before .if1 .taken) (c .if2 .taken))
+    (search needs, capped-unused (read .wide .ensures .0) (l .loop .inv .1) (omega arith) (omega arith))
 
 loop-less-2 : tie.Need-loop-less-2 Inv-loop μ-loop
 loop-less-2 c = search needs
@@ -66,7 +66,7 @@ loop-less-2 c = search needs
 loop-again-2 : tie.Need-loop-again-2 Inv-loop μ-loop
 loop-again-2 c =
     let l = c .before .before .before .before .before .before in
-    (search needs, capped-used (c .before .before .before .wide .ensures .0) (l .loop .inv .1) (c .if2 .left))
+    (search needs, capped-used (c .before .before .before .wide .ensures .0) (l .loop .inv .1) (omega arith))
 
 loop-less-3 : tie.Need-loop-less-3 Inv-loop μ-loop
 loop-less-3 c = search needs
@@ -75,7 +75,7 @@ loop-again-3 : tie.Need-loop-again-3 Inv-loop μ-loop
 loop-again-3 c = (search needs, capped-none (c .before .wide .ensures .0) (c .before .before .before .before .loop .inv .1) (c .if1 .left))
 
 same-length : tie.Need-same-length Inv-loop μ-loop
-same-length c = c .before .loop .inv .1 .long
+same-length c = c .before .loop .inv .1 .rows .long
 
 returns : tie.Need-returns Inv-loop μ-loop
 returns c = capped-end (c .before .loop .inv .0) (c .loop-test .left) (c .before .loop .inv .1)

@@ -1,11 +1,13 @@
--- Owners of both sequences, next columns by owner, totals by owner, and the rows of k-mers that are not used set to 0.
+-- Owners of both sequences, next columns and counts by owner, and the rows of k-mers that are not used set to 0.
 use mathlib.Core.Path.{_≡_}
 use Prim.Native.Nat.{ℕ}
 use native.Mathlib.Omega.{arith}
 use lib.ListN.{length, replicate, length-replicate}
 use borrow.Author.Needs.{needs}
+use Rattle.matches.proofs.Counting.{all-zeros, owned-upto, tally-upto}
+use Rattle.matches.proofs.Striking.{struck-upto, struck-capped}
 use Rattle.matches.proofs.Links.{owned-owns}
-use Rattle.matches.proofs.Totals.{all-zeros, zeros-upto, owned-upto, tally-upto, first-columns}
+use Rattle.matches.proofs.Totals.{first-columns}
 use Rattle.matches.proofs.find_matches.Statement.{statement}
 use Rattle.matches.proofs.find_matches.Tie as tie
 
@@ -18,57 +20,53 @@ slice-aggregate-own-all c = search needs
 own-all-requires : tie.Need-own-all-requires
 own-all-requires c κs = search needs
 
-slice-aggregate-find-nexts : tie.Need-slice-aggregate-find-nexts
-slice-aggregate-find-nexts c = search needs
+slice-aggregate-link-columns : tie.Need-slice-aggregate-link-columns
+slice-aggregate-link-columns c = search needs
 
-slice-aggregate-find-nexts-2 : tie.Need-slice-aggregate-find-nexts-2
-slice-aggregate-find-nexts-2 c = search needs
+slice-aggregate-link-columns-2 : tie.Need-slice-aggregate-link-columns-2
+slice-aggregate-link-columns-2 c = search needs
 
-find-nexts-requires : tie.Need-find-nexts-requires
-find-nexts-requires c κs =
-    let owned = c .before .before .before .before .before .before in
+slice-aggregate-link-columns-3 : tie.Need-slice-aggregate-link-columns-3
+slice-aggregate-link-columns-3 c = search needs
+
+link-columns-requires : tie.Need-link-columns-requires
+link-columns-requires c κs =
+    let owned = c .before .before .before .before .before .before .before in
     let s = owned .before .before .before .before .before .before .before .pre in
     let own = owned .own-all .ensures .0 in
-    (s .1 .0, (omega (arith, s .1 .0, own .long, room), (omega (arith, s .1 .0, room), (s .1 .1 .1, (owned-owns own, all-zeros 16384)))))
+    let few = s .1 .0 in
+    let z = all-zeros 16384 in
+    (few, (omega (arith, few, own .long, room), (omega (arith, few, room), (omega (arith, few, room), (s .1 .1 .1, (owned-owns own, (z, z)))))))
 
-slice-aggregate-tally : tie.Need-slice-aggregate-tally
-slice-aggregate-tally c = search needs
+slice-aggregate-count-rows : tie.Need-slice-aggregate-count-rows
+slice-aggregate-count-rows c = search needs
 
-slice-aggregate-tally-2 : tie.Need-slice-aggregate-tally-2
-slice-aggregate-tally-2 c = search needs
-
-tally-requires : tie.Need-tally-requires
-tally-requires c κs =
-    let owned = c .before .before .before .before .before .before .before .before .before .before .before .before in
-    let s = owned .before .before .before .before .before .before .before .pre in
-    let own = owned .own-all .ensures .0 in
-    (omega (arith, s .1 .0, own .long, room), (s .1 .0, (owned-upto (omega arith) (omega (arith, s .1 .0, room)) own, zeros-upto (all-zeros 16384))))
-
-slice-aggregate-tally-3 : tie.Need-slice-aggregate-tally-3
-slice-aggregate-tally-3 c = search needs
-
-tally-requires-2 : tie.Need-tally-requires-2
-tally-requires-2 c κs =
-    let columns = c .before .before .before in
-    let owned = columns .before .before .before .before .before .before .before .before .before .before .before .before .before in
+count-rows-requires : tie.Need-count-rows-requires
+count-rows-requires c κs =
+    let linked = c .before .before .before .before .before .before in
+    let counted = linked .link-columns .ensures .1 in
+    let owned = linked .before .before .before .before .before .before .before .before in
     let s = owned .before .before .before .before .before .before .before .pre in
     let heads = owned .own-all .ensures .1 in
-    let counted = columns .tally .ensures in
     let small = tally-upto (s .1 .0) (all-zeros 16384) counted in
-    (omega (arith, s .1 .1 .0, heads .long), (omega (arith, s .0), (owned-upto (omega arith) (omega (arith, s .1 .0, counted .long, room)) heads, small)))
+    (omega (arith, s .1 .1 .0, heads .long), (omega (arith, s .0), (owned-upto (omega arith) (omega (arith, s .1 .0, counted .sums .long, room)) heads, small)))
 
 slice-aggregate-cap : tie.Need-slice-aggregate-cap
 slice-aggregate-cap c = search needs
 
 cap-requires : tie.Need-cap-requires
 cap-requires c κs =
-    let rows = c .before .before .before in
-    let columns = rows .before .before .before .before in
-    let owned = columns .before .before .before .before .before .before .before .before .before .before .before .before .before in
+    let rows = c .before .before .before .before .before .before in
+    let counted = rows .count-rows .ensures in
+    let linked = rows .before .before .before .before .before .before .before in
+    let owned = linked .before .before .before .before .before .before .before .before in
     let s = owned .before .before .before .before .before .before .before .pre in
     let heads = owned .own-all .ensures .1 in
-    let size = columns .tally .ensures .long in
-    (omega (arith, s .1 .1 .0, heads .long), owned-upto (omega arith) (omega (arith, s .1 .0, size, rows .tally2 .ensures .long, room)) heads)
+    let same = linked .link-columns .ensures .1 .sums .long in (
+      omega (arith, s .1 .1 .0, heads .long, counted .1 .0 .rows .long),
+      struck-upto (counted .1 .0)
+          (owned-upto (omega arith) (omega (arith, s .1 .0, same, counted .0 .sums .long, room)) heads),
+    )
 
 same-length : tie.Need-same-length
 same-length c = search needs
@@ -78,14 +76,37 @@ same-length-2 c = search needs
 
 returns : tie.Need-returns
 returns c =
-    let rows = c .before .before .before .before .before .before in
-    let columns = rows .before .before .before .before in
-    let linked = columns .before .before .before .before .before .before in
-    let owned = linked .before .before .before .before .before .before .before in
+    let capped = c .before .before in
+    let rows = capped .before .before .before .before .before .before .before in
+    let counted = rows .count-rows .ensures in
+    let linked = rows .before .before .before .before .before .before .before in
+    let links = linked .link-columns .ensures in
+    let owned = linked .before .before .before .before .before .before .before .before in
     let s = owned .before .before .before .before .before .before .before .pre in
     let own = owned .own-all .ensures in
-    let counts = first-columns (own .0) (own .1) (omega (arith, s .1 .0, room)) (all-zeros 16384) in
-    (counts (columns .tally .ensures) (rows .tally2 .ensures) (c .before .before .cap .ensures), linked .find-nexts .ensures)
+    let firsts = first-columns (own .0) (own .1) (omega (arith, s .1 .0, room)) (all-zeros 16384) (links .1) (counted .0) in (
+      firsts
+          (struck-capped (counted .0) (owned-upto (omega arith) (omega (arith, s .1 .0, links .1 .sums .long, room)) (own .1)) (counted .1 .0) (capped .cap .ensures)),
+      links .0,
+    )
+
+same-length-3 : tie.Need-same-length-3
+same-length-3 c = search needs
+
+same-length-4 : tie.Need-same-length-4
+same-length-4 c = search needs
+
+returns-2 : tie.Need-returns-2
+returns-2 c =
+    let rows = c .before .before .before .before in
+    let counted = rows .count-rows .ensures in
+    let linked = rows .before .before .before .before .before .before .before in
+    let links = linked .link-columns .ensures in
+    let owned = linked .before .before .before .before .before .before .before .before in
+    let s = owned .before .before .before .before .before .before .before .pre in
+    let own = owned .own-all .ensures in
+    let firsts = first-columns (own .0) (own .1) (omega (arith, s .1 .0, room)) (all-zeros 16384) (links .1) (counted .0) in
+    (firsts (counted .1 .1 (c .if1 .left)), links .0)
 
 pub find-matches-spec : {M : Type 1} → statement M
 find-matches-spec =
@@ -93,16 +114,17 @@ find-matches-spec =
     (tie.spec
     slice-aggregate-own-all
     own-all-requires
-    slice-aggregate-find-nexts
-    slice-aggregate-find-nexts-2
-    find-nexts-requires
-    slice-aggregate-tally
-    slice-aggregate-tally-2
-    tally-requires
-    slice-aggregate-tally-3
-    tally-requires-2
+    slice-aggregate-link-columns
+    slice-aggregate-link-columns-2
+    slice-aggregate-link-columns-3
+    link-columns-requires
+    slice-aggregate-count-rows
+    count-rows-requires
     slice-aggregate-cap
     cap-requires
     same-length
     same-length-2
-    returns)
+    returns
+    same-length-3
+    same-length-4
+    returns-2)

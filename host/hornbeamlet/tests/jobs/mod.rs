@@ -89,6 +89,40 @@ pub fn dense(random: &mut Random) -> Job {
     }
 }
 
+/// A job of few k-mers, with a repeat cap that is the total of one of them, one
+/// less or one more: the others have totals on either side of it.
+pub fn capped(random: &mut Random) -> Job {
+    let letters = random.one_of(&[b"AC".as_slice(), b"ACG", b"ACGN"]);
+    let k = random.between(1, 3);
+    let [first, second] = [(); 2].map(|()| {
+        let length = random.between(k, 80);
+        random.letters(letters, length)
+    });
+    let place = random.between(0, first.len() - k);
+    let [rows, columns] = totals(&first[place..place + k], [&first, &second]);
+    let a = (rows + columns + random.below(3) - 1).max(1);
+    let settings = Settings {
+        k: k as u32,
+        b: random.between(1, 12) as u32,
+        a: a as u32,
+        m: random.one_of(&[0, 0, 5]),
+        strand: random.one_of(&[0, 1]),
+    };
+    Job {
+        settings,
+        first,
+        second,
+    }
+}
+
+/// How often a k-mer occurs in each of two sequences.
+pub fn totals(kmer: &[u8], sequences: [&[u8]; 2]) -> [usize; 2] {
+    sequences.map(|sequence| {
+        let places = sequence.windows(kmer.len());
+        places.filter(|it| *it == kmer).count()
+    })
+}
+
 /// Two sequences that have something in common.
 fn pair(random: &mut Random, longest: usize) -> (Vec<u8>, Vec<u8>) {
     match random.below(10) {
