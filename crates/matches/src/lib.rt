@@ -56,7 +56,7 @@ fn link_columns(
     }
 }
 
-// Whether a k-mer passes a at a row, or has done so before: v is its count up to that row.
+// Whether a k-mer passes a at this row, where its count was v, or one did so before.
 fn passes(before: bool, v: u32, a: u32) -> bool
     ensures { λ r. ⌜ r ≡ cond (eqb v a) true before ⌝ }
 {
@@ -67,7 +67,7 @@ fn passes(before: bool, v: u32, a: u32) -> bool
 }
 
 // Each k-mer's count over the first n rows too, which makes it the total. A row whose k-mer has passed a before is set to 0 at once, and nothing of
-// it is counted any more. True where a k-mer passes a only here, so that rows before are left to be capped. One turn a row.
+// it is counted any more. True where a k-mer passes a at a row, since that row and those before it are then left to be capped. One turn a row.
 fn count_rows(firsts: &mut [u32], n: usize, a: u32, count: &mut [u32]) -> bool
     requires { ⌜ n ≤ length (now firsts) ⌝ }
     requires { ⌜ n ≤ 16384 ⌝ }

@@ -3,8 +3,8 @@
 //!
 //! HORNBEAMLET_JOBS, HORNBEAMLET_LONG_JOBS, HORNBEAMLET_DENSE_JOBS and
 //! HORNBEAMLET_CAPPED_JOBS set how many jobs are run, HORNBEAMLET_SEED the seed of
-//! the first. A failure prints
-//! the seed of its job and the question, which `reference call` answers too.
+//! the first. A failure prints the seed of its job and the question, which
+//! `reference call` answers too.
 
 #![forbid(unsafe_code)]
 
