@@ -37,6 +37,9 @@ pub count-above : {a v : ℕ} → a < v → v ≡ countOn a v
 unfolding countOn
 count-above {a} {v} l = rw (lt-leb v a l)
 
+summed-same : {s : ℕ → ℕ} {a : ℕ} {count₀ count : List ℕ} → Summed s a count₀ count → (s′ : ℕ → ℕ) → ((q : ℕ) → s′ q ≡ s q) → Summed s′ a count₀ count
+summed-same o s′ same = record { long = o .long; each = λ q l. omega (arith, o .each q l, same q) }
+
 -- index i is counted once more
 module _ {s : ℕ → ℕ} {a : ℕ} {count₀ count : List ℕ} (o : Summed s a count₀ count) (s′ : ℕ → ℕ) (i : ℕ) (here : i < length count)
     (more : s′ i ≡ s i + 1) (others : (q : ℕ) → (q ≡ i → ⊥) → s′ q ≡ s q) where
@@ -74,10 +77,7 @@ tallied-start {own} u = record { sums = record { long = refl; each = λ q l. ome
 module _ {own count₀ count : List ℕ} {n a r : ℕ} (e : r ≡ getD own n 0) (t : Tallied own n a count₀ count) where
   pub tallied-skip : r ≤ 0 → Tallied own (n + 1) a count₀ count
   tallied-skip z = record {
-    sums = record {
-      long = t .sums .long;
-      each = λ q l. rw (add-one n) (omega (arith, t .sums .each q l, count-no own (suc q) n (λ u. absurd (omega arith))));
-    };
+    sums = summed-same (t .sums) (λ q. countIn own (suc q) (n + 1)) (λ q. rw (add-one n) (count-no own (suc q) n (λ u. absurd (omega arith))));
   }
 
   module _ (z : 0 < r) {m : ℕ} (more : n < m) (bound : Upto own m (length count₀)) where
@@ -118,10 +118,8 @@ module _ {own count₀ count : List ℕ} {n k a r : ℕ} (j : ℕ) (at : k ≡ j
     (t : TalliedFrom own n k a count₀ count) where
   pub from-skip : r ≡ 0 → TalliedFrom own n j a count₀ count
   from-skip z = record {
-    sums = record {
-      long = t .sums .long;
-      each = λ q l. omega (arith, rw (at, add-one j) at (t .sums .each q l), count-no own (suc q) j (λ u. absurd (omega arith)));
-    };
+    sums = summed-same (t .sums) (λ q. countIn own (suc q) n - countIn own (suc q) j) (λ q.
+        rw (at, add-one j) (omega (arith, count-no own (suc q) j (λ u. absurd (omega arith)))));
   }
 
   module _ (z : r ≡ 0 → ⊥) (here : r - 1 < length count) where
@@ -138,9 +136,6 @@ module _ {own count₀ count : List ℕ} {n k a r : ℕ} (j : ℕ) (at : k ≡ j
     }
 
 pub from-end : {own count₀ count : List ℕ} {n k a : ℕ} → k ≤ 0 → TalliedFrom own n k a count₀ count → Tallied own n a count₀ count
-from-end {own} {k = k} l t = record {
-  sums = record {
-    long = t .sums .long;
-    each = λ q b. let z : k ≡ 0 = omega arith in omega (arith, rw z at (t .sums .each q b), count-zero own (suc q));
-  };
-}
+from-end {own} {n = n} {k = k} l t =
+    let z : k ≡ 0 = omega arith in
+    record { sums = summed-same (t .sums) (λ q. countIn own (suc q) n) (λ q. rw z (omega (arith, count-zero own (suc q)))) }

@@ -143,10 +143,10 @@ module _ {second own tail₀ tail nexts₀ nexts : List ℕ} {k r : ℕ} (j : �
         let h = rw (owner-code, add-one j) at (before .tails (r - 1) owner-in owner-first) in
         is-first h ∙ sym (next-first second j (λ u. owner-first .kmer (owner-code ∙ u)))
 
-    pub linking-next : Linking second tail₀ (set tail (r - 1) (j + 1)) nexts₀ (set nexts j (getD tail (r - 1) 0)) j
-    linking-next =
+    pub linking-next : {v : ℕ} → v ≡ getD tail (r - 1) 0 → Linking second tail₀ (set tail (r - 1) (j + 1)) nexts₀ (set nexts j v) j
+    linking-next {v} met =
         let in-tail : r - 1 < length tail = omega (arith, owner-in, s .kept) in
-        stored (getD tail (r - 1) 0) tail-is-next (length-set tail (r - 1) (j + 1) ∙ s .kept)
+        stored v (met ∙ tail-is-next) (length-set tail (r - 1) (j + 1) ∙ s .kept)
         (after-set (λ p x. p < length second → FirstAt second p → Hit second (getD second p 0) j (length second) x) tail (r - 1) (j + 1) in-tail
         (λ _ _. rw (add-one j) (hit-at j (omega arith) inside (sym owner-code) (λ q a b. absurd (omega arith))))
         (λ p q l f. hit-earlier (λ u. q (first-one f owner-first (sym u ∙ sym owner-code))) (before .tails p l f)))

@@ -9,10 +9,11 @@ use native.Mathlib.Omega.{arith}
 use lib.ListN.{getD, length, set, length-set}
 use lib.Dec.{eqb}
 use borrow.Author.Tests.{lt-leb, le-leb, eq-eqb, ne-eqb}
+use lib.Seq.{getD-set-same}
 use Rattle.order.specs.Counts.{countIn}
 use Rattle.order.proofs.Cases.{le-or-lt, eq-or-ne, true-not-false, after-set}
 use Rattle.order.proofs.Counts.{count-grows}
-use Rattle.matches.specs.Steps.{Upto, Tallied, Rewritten, unlessAbove, struckAt, Struck, cappedAt, Capped}
+use Rattle.matches.specs.Steps.{Upto, Tallied, Rewritten, unlessAbove, struckAt, Struck, cappedAt, Capped, NonePasses, OnePasses}
 use Rattle.matches.proofs.Counting.{count-below, tallied-start, tallied-skip, owner-counted, count-small, tallied-next, tallied-ended}
 
 unless-below : {a m : ℕ} (e : ℕ) → m ≤ a → e ≡ unlessAbove a m e
@@ -73,18 +74,20 @@ module _ {f : ℕ → ℕ} {l₀ l : List ℕ} {n r : ℕ} (e : r ≡ getD l n 0
 
 -- ---- while rows are counted
 
--- no k-mer has passed a only at a row
-pub record NoneLate (a : ℕ) (count₀ count : List ℕ) : Type 0 where
-  pub early : (q : ℕ) → a < getD count q 0 → a < getD count₀ q 0
-
 -- the first n rows are counted; `late` says whether a k-mer has passed a at one of them
 pub record RowsCounted (a : ℕ) (firsts₀ count₀ firsts count : List ℕ) (late : Bool) (n : ℕ) : Type 0 where
   pub tallied : Tallied firsts₀ n a count₀ count
   pub struck : Struck count₀ a firsts₀ firsts n
-  pub none-late : late ≡ false → NoneLate a count₀ count
+  pub none-late : late ≡ false → NonePasses a count₀ count
+  pub one-late : late ≡ true → OnePasses a count₀ count
 
-pub rows-start : {a : ℕ} {firsts count : List ℕ} {late : Bool} → Upto count (length count) (min 16384 (a + 1)) → RowsCounted a firsts count firsts count late 0
-rows-start u = record { tallied = tallied-start u; struck = record { rows = none-rewritten }; none-late = λ _. record { early = λ q l. l } }
+pub rows-start : {a : ℕ} {firsts count : List ℕ} → Upto count (length count) (min 16384 (a + 1)) → RowsCounted a firsts count firsts count false 0
+rows-start u = record {
+  tallied = tallied-start u;
+  struck = record { rows = none-rewritten };
+  none-late = λ _. record { passed-before = λ q l. l };
+  one-late = λ e. absurd (true-not-false (sym e));
+}
 
 strikes : (count : List ℕ) (a : ℕ) (firsts : List ℕ) (n : ℕ) {r : ℕ} → r ≡ getD firsts n 0
     → unlessAbove a (getD count (r - 1) 0 + countIn firsts r n) r ≡ struckAt count a firsts n
@@ -105,6 +108,7 @@ module _ {a : ℕ} {firsts₀ count₀ firsts count : List ℕ} {late : Bool} {n
     tallied = tallied-skip e₀ (o .tallied) z;
     struck = record { rows = kept e (o .struck .rows) (unless-none a (getD count₀ (r - 1) 0 + countIn firsts₀ r n) z ∙ strikes-here) };
     none-late = o .none-late;
+    one-late = o .one-late;
   })
 
   module _ (z : 0 < r) {m : ℕ} (more : n < m) (bound : Upto firsts₀ m (length count₀)) where
@@ -122,23 +126,46 @@ module _ {a : ℕ} {firsts₀ count₀ firsts count : List ℕ} {late : Bool} {n
       tallied = tallied-ended e₀ (o .tallied) z more bound above;
       struck = record { rows = zeroed e (o .struck .rows) inside (unless-above r (omega (arith, so-far)) ∙ strikes-here) };
       none-late = o .none-late;
+      one-late = o .one-late;
     })
 
-    pub row-counted : {late′ : Bool} {k : ℕ} → k ≡ n + 1 → getD count (r - 1) 0 ≤ a → late′ ≡ cond (eqb (getD count (r - 1) 0) a) true late
-        → RowsCounted a firsts₀ count₀ firsts (set count (r - 1) (getD count (r - 1) 0 + 1)) late′ k
-    row-counted next below says = rw next (record {
-      tallied = rw (count-below below) (tallied-next e₀ (o .tallied) z more bound);
-      struck = record { rows = kept e (o .struck .rows) (unless-below r (omega (arith, so-far)) ∙ strikes-here) };
-      none-late = λ never.
+    -- a count that is a passes here, and no other does
+    module _ {late′ : Bool} (below : getD count (r - 1) 0 ≤ a) (says : late′ ≡ cond (eqb (getD count (r - 1) 0) a) true late) where
+      none-passes : late′ ≡ false → NonePasses a count₀ (set count (r - 1) (getD count (r - 1) 0 + 1))
+      none-passes never =
           ⊎-elim
           (λ (h : getD count (r - 1) 0 ≡ a). absurd (true-not-false (sym (rw (eq-eqb (getD count (r - 1) 0) a h) at says) ∙ never)))
           (λ (h : getD count (r - 1) 0 ≡ a → ⊥). record {
-            early = after-set (λ p x. a < x → a < getD count₀ p 0) count (r - 1) (getD count (r - 1) 0 + 1) row-owner
+            passed-before = after-set (λ p x. a < x → a < getD count₀ p 0) count (r - 1) (getD count (r - 1) 0 + 1) row-owner
                 (λ l. absurd (omega arith))
-                (λ p other l. o .none-late (sym (rw (ne-eqb (getD count (r - 1) 0) a h) at says) ∙ never) .early p l);
+                (λ p other l. o .none-late (sym (rw (ne-eqb (getD count (r - 1) 0) a h) at says) ∙ never) .passed-before p l);
           })
-          (eq-or-ne (getD count (r - 1) 0) a);
-    })
+          (eq-or-ne (getD count (r - 1) 0) a)
+
+      one-passes : late′ ≡ true → OnePasses a count₀ (set count (r - 1) (getD count (r - 1) 0 + 1))
+      one-passes once =
+          ⊎-elim
+          (λ (h : getD count (r - 1) 0 ≡ a).
+          record { index = r - 1; not-before = omega (arith, so-far); after = rw (getD-set-same count (r - 1) (getD count (r - 1) 0 + 1) 0 row-owner) (omega arith) })
+          (λ (h : getD count (r - 1) 0 ≡ a → ⊥).
+          let one = o .one-late (sym (rw (ne-eqb (getD count (r - 1) 0) a h) at says) ∙ once) in
+          let q : ℕ = one .index in
+          record {
+            index = q;
+            not-before = one .not-before;
+            after = after-set (λ p x. a < getD count p 0 → a < x) count (r - 1) (getD count (r - 1) 0 + 1) row-owner
+                (λ l. omega arith)
+                (λ p other l. l) q (one .after);
+          })
+          (eq-or-ne (getD count (r - 1) 0) a)
+
+      pub row-counted : {k v : ℕ} → k ≡ n + 1 → v ≡ getD count (r - 1) 0 + 1 → RowsCounted a firsts₀ count₀ firsts (set count (r - 1) v) late′ k
+      row-counted next one-more = rw (next, one-more) (record {
+        tallied = rw (count-below below) (tallied-next e₀ (o .tallied) z more bound);
+        struck = record { rows = kept e (o .struck .rows) (unless-below r (omega (arith, so-far)) ∙ strikes-here) };
+        none-late = none-passes;
+        one-late = one-passes;
+      })
 
 pub rows-end : {a : ℕ} {firsts₀ count₀ firsts count : List ℕ} {late : Bool} {j n : ℕ} → j ≤ n → n ≤ j
     → RowsCounted a firsts₀ count₀ firsts count late j → RowsCounted a firsts₀ count₀ firsts count late n
@@ -196,7 +223,7 @@ module _ {count₀ count : List ℕ} {a : ℕ} {firsts₀ firsts : List ℕ} {n 
       omega (arith, total, count-grows firsts₀ e p n (omega arith))
 
   -- where none is late, struck rows are all that are to be capped
-  all-struck : NoneLate a count₀ count → Capped count a firsts₀ firsts n
+  pub all-struck : NonePasses a count₀ count → Capped count a firsts₀ firsts n
   unfolding struckAt cappedAt
   all-struck none = record {
     rows = record {
@@ -205,7 +232,7 @@ module _ {count₀ count : List ℕ} {a : ℕ} {firsts₀ firsts : List ℕ} {n 
           let e : ℕ = getD firsts₀ p 0 in
           o .rows .each p l
           ∙ unless-alike a (getD count₀ (e - 1) 0 + countIn firsts₀ e p) (getD count (e - 1) 0) (passed p l) (λ z below.
-          ⊎-elim (λ k. k) (λ k. absurd (omega (arith, none .early (e - 1) k))) (le-or-lt (getD count (e - 1) 0) a));
+          ⊎-elim (λ k. k) (λ k. absurd (omega (arith, none .passed-before (e - 1) k))) (le-or-lt (getD count (e - 1) 0) a));
       others = o .rows .others;
     };
   }
@@ -237,7 +264,3 @@ module _ {count₀ count : List ℕ} {a : ℕ} {firsts₀ firsts : List ℕ} {n 
           (λ (z : 0 < e). unless-above e (passed p l z k))
           (le-or-lt e 0)))
           (le-or-lt m a)
-
-pub rows-capped : {a : ℕ} {firsts₀ count₀ firsts count : List ℕ} {late : Bool} {n : ℕ} → Upto firsts₀ n (length count₀)
-    → RowsCounted a firsts₀ count₀ firsts count late n → late ≡ false → Capped count a firsts₀ firsts n
-rows-capped bound o never = all-struck (o .tallied) bound (o .struck) (o .none-late never)

@@ -57,3 +57,13 @@ cappedAt count a firsts p = let e = getD firsts p 0 in unlessAbove a (getD count
 
 pub record Capped (count : List ℕ) (a : ℕ) (firsts₀ firsts : List ℕ) (n : ℕ) : Type 0 where
   pub rows : Rewritten (cappedAt count a firsts₀) firsts₀ firsts n
+
+-- from one count to a later one no k-mer passes a
+pub record NonePasses (a : ℕ) (count₀ count : List ℕ) : Type 0 where
+  pub passed-before : (q : ℕ) → a < getD count q 0 → a < getD count₀ q 0
+
+-- and one does, known by its owner's index
+pub record OnePasses (a : ℕ) (count₀ count : List ℕ) : Type 0 where
+  pub index : ℕ
+  pub not-before : getD count₀ index 0 ≤ a
+  pub after : a < getD count index 0

@@ -6,7 +6,7 @@ ghost use Prim.Native.Nat.{min, _+_, _≤_};
 ghost use lib.Dec.{eqb};
 ghost use lib.ListN.{length};
 ghost use Rattle.matches.specs.Columns.{FirstColumns, NextColumns};
-ghost use Rattle.matches.specs.Steps.{Owns, Zeros, Upto, countOn, Tallied, Struck, Capped};
+ghost use Rattle.matches.specs.Steps.{Owns, Zeros, Upto, countOn, Tallied, Struck, Capped, NonePasses, OnePasses};
 
 // A k-mer's count with one place more. It ends once it has passed a: a + 1 stands for every total above a.
 fn count_on(v: u32, a: u32) -> u32
@@ -75,7 +75,8 @@ fn count_rows(firsts: &mut [u32], n: usize, a: u32, count: &mut [u32]) -> bool
     requires { ⌜ Upto (now count) (length (now count)) (min 16384 (a + 1)) ⌝ }
     ensures { λ _. ⌜ Tallied (now (firsts .entry)) n a (now (count .entry)) (now (count .exit)) ⌝ }
     ensures { λ _. ⌜ Struck (now (count .entry)) a (now (firsts .entry)) (now (firsts .exit)) n ⌝ }
-    ensures { λ r. ⌜ (r ≡ false → Capped (now (count .exit)) a (now (firsts .entry)) (now (firsts .exit)) n) ⌝ }
+    ensures { λ r. ⌜ (r ≡ false → NonePasses a (now (count .entry)) (now (count .exit))) ⌝ }
+    ensures { λ r. ⌜ (r ≡ true → OnePasses a (now (count .entry)) (now (count .exit))) ⌝ }
 {
     let mut late = false;
     let mut j = 0;

@@ -3,7 +3,7 @@ use Prim.Native.Nat.{_≤_, _-_, _<_}
 use native.Mathlib.Omega.{arith}
 use lib.ListN.{length}
 use borrow.Author.Needs.{needs}
-use Rattle.matches.proofs.Striking.{RowsCounted, rows-start, row-empty, row-owner, row-small, row-struck, row-counted, rows-end, rows-capped}
+use Rattle.matches.proofs.Striking.{RowsCounted, rows-start, row-empty, row-owner, row-small, row-struck, row-counted, rows-end}
 use Rattle.matches.proofs.count_rows.Statement.{statement}
 use Rattle.matches.proofs.count_rows.Tie as tie
 
@@ -90,7 +90,7 @@ loop-again-2 c =
     let more = read .before .before .loop-test .taken in
     let l = read .before .before .before in
     let bound = l .before .before .before .pre .1 .1 .0 in
-    (search needs, row-counted (read .wide .ensures .0) (l .loop .inv .1) some more bound (omega arith) (omega arith) (c .passes .ensures))
+    (search needs, row-counted (read .wide .ensures .0) (l .loop .inv .1) some more bound (omega arith) (c .passes .ensures) (omega arith) (omega arith))
 
 loop-less-3 : tie.Need-loop-less-3 Inv-loop μ-loop
 loop-less-3 c = search needs
@@ -109,7 +109,7 @@ same-length-2 c = c .before .loop .inv .1 .tallied .sums .long
 returns : tie.Need-returns Inv-loop μ-loop
 returns c =
     let o = rows-end (c .before .loop .inv .0) (c .loop-test .left) (c .before .loop .inv .1) in
-    (o .tallied, (o .struck, rows-capped (c .before .before .before .before .pre .1 .1 .0) o))
+    (o .tallied, (o .struck, (o .none-late, o .one-late)))
 
 pub count-rows-spec : {M : Type 1} → statement M
 count-rows-spec =

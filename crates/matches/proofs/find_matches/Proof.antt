@@ -5,7 +5,7 @@ use native.Mathlib.Omega.{arith}
 use lib.ListN.{length, replicate, length-replicate}
 use borrow.Author.Needs.{needs}
 use Rattle.matches.proofs.Counting.{all-zeros, owned-upto, tally-upto}
-use Rattle.matches.proofs.Striking.{struck-upto, struck-capped}
+use Rattle.matches.proofs.Striking.{struck-upto, all-struck, struck-capped}
 use Rattle.matches.proofs.Links.{owned-owns}
 use Rattle.matches.proofs.Totals.{first-columns}
 use Rattle.matches.proofs.find_matches.Statement.{statement}
@@ -13,6 +13,19 @@ use Rattle.matches.proofs.find_matches.Tie as tie
 
 room : length {A = ℕ} (replicate 16384 0) ≡ 16384
 room = length-replicate {A = ℕ} 16384 0
+
+-- ---- the places that later ones look back to
+
+abbrev start : tie.After-own-all → tie.Start
+start c = c .before .before .before .before .before .before .before
+
+abbrev owned : tie.After-link-columns → tie.After-own-all
+owned c = c .before .before .before .before .before .before .before .before
+
+abbrev linked : tie.After-count-rows → tie.After-link-columns
+linked c = c .before .before .before .before .before .before .before
+
+-- ---- the needs
 
 slice-aggregate-own-all : tie.Need-slice-aggregate-own-all
 slice-aggregate-own-all c = search needs
@@ -31,9 +44,9 @@ slice-aggregate-link-columns-3 c = search needs
 
 link-columns-requires : tie.Need-link-columns-requires
 link-columns-requires c κs =
-    let owned = c .before .before .before .before .before .before .before in
-    let s = owned .before .before .before .before .before .before .before .pre in
-    let own = owned .own-all .ensures .0 in
+    let o = c .before .before .before .before .before .before .before in
+    let s = start o .pre in
+    let own = o .own-all .ensures .0 in
     let few = s .1 .0 in
     let z = all-zeros 16384 in
     (few, (omega (arith, few, own .long, room), (omega (arith, few, room), (omega (arith, few, room), (s .1 .1 .1, (owned-owns own, (z, z)))))))
@@ -43,11 +56,10 @@ slice-aggregate-count-rows c = search needs
 
 count-rows-requires : tie.Need-count-rows-requires
 count-rows-requires c κs =
-    let linked = c .before .before .before .before .before .before in
-    let counted = linked .link-columns .ensures .1 in
-    let owned = linked .before .before .before .before .before .before .before .before in
-    let s = owned .before .before .before .before .before .before .before .pre in
-    let heads = owned .own-all .ensures .1 in
+    let l = c .before .before .before .before .before .before in
+    let counted = l .link-columns .ensures .1 in
+    let s = start (owned l) .pre in
+    let heads = owned l .own-all .ensures .1 in
     let small = tally-upto (s .1 .0) (all-zeros 16384) counted in
     (omega (arith, s .1 .1 .0, heads .long), (omega (arith, s .0), (owned-upto (omega arith) (omega (arith, s .1 .0, counted .sums .long, room)) heads, small)))
 
@@ -58,11 +70,9 @@ cap-requires : tie.Need-cap-requires
 cap-requires c κs =
     let rows = c .before .before .before .before .before .before in
     let counted = rows .count-rows .ensures in
-    let linked = rows .before .before .before .before .before .before .before in
-    let owned = linked .before .before .before .before .before .before .before .before in
-    let s = owned .before .before .before .before .before .before .before .pre in
-    let heads = owned .own-all .ensures .1 in
-    let same = linked .link-columns .ensures .1 .sums .long in (
+    let s = start (owned (linked rows)) .pre in
+    let heads = owned (linked rows) .own-all .ensures .1 in
+    let same = linked rows .link-columns .ensures .1 .sums .long in (
       omega (arith, s .1 .1 .0, heads .long, counted .1 .0 .rows .long),
       struck-upto (counted .1 .0)
           (owned-upto (omega arith) (omega (arith, s .1 .0, same, counted .0 .sums .long, room)) heads),
@@ -79,11 +89,9 @@ returns c =
     let capped = c .before .before in
     let rows = capped .before .before .before .before .before .before .before in
     let counted = rows .count-rows .ensures in
-    let linked = rows .before .before .before .before .before .before .before in
-    let links = linked .link-columns .ensures in
-    let owned = linked .before .before .before .before .before .before .before .before in
-    let s = owned .before .before .before .before .before .before .before .pre in
-    let own = owned .own-all .ensures in
+    let links = linked rows .link-columns .ensures in
+    let s = start (owned (linked rows)) .pre in
+    let own = owned (linked rows) .own-all .ensures in
     let firsts = first-columns (own .0) (own .1) (omega (arith, s .1 .0, room)) (all-zeros 16384) (links .1) (counted .0) in (
       firsts
           (struck-capped (counted .0) (owned-upto (omega arith) (omega (arith, s .1 .0, links .1 .sums .long, room)) (own .1)) (counted .1 .0) (capped .cap .ensures)),
@@ -100,13 +108,14 @@ returns-2 : tie.Need-returns-2
 returns-2 c =
     let rows = c .before .before .before .before in
     let counted = rows .count-rows .ensures in
-    let linked = rows .before .before .before .before .before .before .before in
-    let links = linked .link-columns .ensures in
-    let owned = linked .before .before .before .before .before .before .before .before in
-    let s = owned .before .before .before .before .before .before .before .pre in
-    let own = owned .own-all .ensures in
-    let firsts = first-columns (own .0) (own .1) (omega (arith, s .1 .0, room)) (all-zeros 16384) (links .1) (counted .0) in
-    (firsts (counted .1 .1 (c .if1 .left)), links .0)
+    let links = linked rows .link-columns .ensures in
+    let s = start (owned (linked rows)) .pre in
+    let own = owned (linked rows) .own-all .ensures in
+    let firsts = first-columns (own .0) (own .1) (omega (arith, s .1 .0, room)) (all-zeros 16384) (links .1) (counted .0) in (
+      firsts
+          (all-struck (counted .0) (owned-upto (omega arith) (omega (arith, s .1 .0, links .1 .sums .long, room)) (own .1)) (counted .1 .0) (counted .1 .1 .0 (c .if1 .left))),
+      links .0,
+    )
 
 pub find-matches-spec : {M : Type 1} → statement M
 find-matches-spec =

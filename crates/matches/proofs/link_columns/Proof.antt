@@ -126,7 +126,7 @@ loop-again-2 c =
     let l = read .before .before .before in
     let room = l .before .before .before .before .before .before .pre .1 .1 in
     let i = l .loop .inv in (
-      linking-next (l .loop .k - 1) (omega arith) (room .0) (room .1 .1 .0) (room .1 .1 .1 .0) e (i .0) (else .if1 .left),
+      linking-next (l .loop .k - 1) (omega arith) (room .0) (room .1 .1 .0) (room .1 .1 .1 .0) e (i .0) (else .if1 .left) (omega arith),
       rw (c .count-on .ensures) (from-next (l .loop .k - 1) (omega arith) (omega arith) e (i .1) (else .if1 .left) (count-there else)),
     )
 
