@@ -24,8 +24,8 @@ fn done(listed: usize, counts: Counts, links: u64) -> Answer
     }
 }
 
-// Checks 7 and 8 and the listing, over both strands of a second sequence of so many letters. The links cost a range sum of b + 1 counts a match, all else
-// at most a row's columns a row.
+// Checks 7 and 8 and the listing, over both strands of a second sequence of so many letters. The links cost at most b + 1 columns a match, and few where
+// matches lie close; all else at most a row's columns a row.
 pub fn compare_matches(
     firsts: &[u32],
     nexts: &[u32],

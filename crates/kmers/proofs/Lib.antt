@@ -1,5 +1,6 @@
 pub mod Tests
 pub mod Bits
+pub mod Bases
 pub mod Packing
 pub mod Standing
 pub mod Breaks

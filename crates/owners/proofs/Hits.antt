@@ -54,9 +54,9 @@ hit-one {r = r} {s = s} h k =
     (λ (z : 0 < s). let e = not-later h k z in let f = not-later k h (e .0) in omega (arith, e .1, f .1))
     (le-or-lt s 0)
 
--- one column more: found before, found there, or not found yet
-more-found : {second : List ℕ} {c lo n r : ℕ} → Hit second c lo n r → 0 < r → Hit second c lo (suc n) r
-more-found {second} {c} {lo} {n} {r} h l = record {
+-- what is found among some columns is found among more
+pub more-found : {second : List ℕ} {c lo n m r : ℕ} → n ≤ m → Hit second c lo n r → 0 < r → Hit second c lo m r
+more-found {n = n} o h l = record {
   within = omega arith;
   after = h .after;
   here = h .here;
@@ -76,9 +76,10 @@ more-none {second} {c} {lo} {n} h z non = hit-none λ p a b e.
 not-both : (a b : Bool) → a && b ≡ false → a ≡ true → b ≡ true → ⊥
 not-both a b e p q = true-not-false (rw (p, q) at e)
 
+-- one column more: found before, found there, or not found yet
 hit-step : {second : List ℕ} {c lo n r : ℕ} (s t : Bool) → ltb 0 r ≡ s → (leb lo n && eqb (getD second n 0) c) ≡ t → Hit second c lo n r
     → Hit second c lo (suc n) (cond s r (cond t (suc n) 0))
-hit-step {r = r} true t e f h = more-found h (ltb-true 0 r e)
+hit-step {r = r} true t e f h = more-found (omega arith) h (ltb-true 0 r e)
 hit-step {second} {c} {lo} {n} {r} false true e f h =
     let p = both-true (leb lo n) (eqb (getD second n 0) c) f in
     hit-at n (leb-true lo n (p .0)) (omega arith) (eqb-true (getD second n 0) c (p .1)) (none-yet h (ltb-false 0 r e))

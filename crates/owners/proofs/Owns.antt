@@ -8,7 +8,7 @@ use lib.ListN.{getD, length, set, length-set}
 use borrow.Author.Tests.{eq-eqb, ne-eqb}
 use Rattle.order.proofs.Cases.{eq-or-ne, after-set}
 use Rattle.owners.specs.Owners.{firstIn, ownOf, Owned}
-use Rattle.owners.specs.Table.{FirstAt}
+use Rattle.owners.specs.Table.{FirstAt, Kept}
 use Rattle.owners.proofs.Hits.{Hit, first-hit, is-first}
 
 pub own-none : (second : List ℕ) {c : ℕ} → c ≡ 0 → 0 ≡ ownOf second c
@@ -75,3 +75,11 @@ owned-next {second} {codes} {own₀} {own} {n} {v} l e o = record {
 
 pub owned-end : {second codes own₀ own : List ℕ} {n m : ℕ} → n ≤ m → m ≤ n → Owned second codes own₀ own n → Owned second codes own₀ own m
 owned-end {second} {codes} {own₀} {own} a b o = subst (λ (z : ℕ). Owned second codes own₀ own z) (omega arith) o
+
+-- owners written in order touch nothing behind them
+pub owned-kept : {second codes own₀ own : List ℕ} {n m : ℕ} → n ≤ m → Owned second codes own₀ own n → Kept own₀ own m
+owned-kept l o = record { long = o .long; others = λ p k. o .others p (omega arith) }
+
+-- owners of all n codes, written over numbers that were kept from there on
+pub owned-over : {second codes own₀ own₁ own : List ℕ} {n : ℕ} → Kept own₀ own₁ n → Owned second codes own₁ own n → Owned second codes own₀ own n
+owned-over k o = record { long = o .long ∙ k .long; owners = o .owners; others = λ p l. o .others p l ∙ k .others p l }

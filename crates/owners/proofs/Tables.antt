@@ -1,16 +1,17 @@
 -- The table searched and built. A search has passed only columns of other codes, and every first column of its code is still before it;
 -- links fall, so it ends. Assumes nothing.
-use mathlib.Core.Path.{_≡_, sym, ap, _∙_, subst}
+use mathlib.Core.Path.{_≡_, refl, sym, ap, _∙_, subst}
 use mathlib.Core.List.{List}
 use mathlib.Core.Logic.{⊎-elim}
 use Prim.Native.Nat.{ℕ, _+_, _-_, _<_, _≤_}
 use native.Mathlib.Omega.{arith}
+use native.Mathlib.Numerals.{add-one}
 use lib.ListN.{getD, length, set, length-set}
 use Rattle.order.proofs.Cases.{le-or-lt, eq-or-ne, after-set}
 use Rattle.owners.specs.Owners.{firstIn, ownOf}
 use Rattle.owners.specs.Table.{hashOf, FirstAt, Entry, Table, Found}
-use Rattle.owners.proofs.Hits.{first-hit, is-first}
-use Rattle.owners.proofs.Owns.{own-first, hit-first}
+use Rattle.owners.proofs.Hits.{Hit, hit-at, more-found, first-hit, is-first}
+use Rattle.owners.proofs.Owns.{own-first, is-owner, hit-first}
 
 -- two first columns of one code are one
 pub first-one : {second : List ℕ} {p q : ℕ} → FirstAt second p → FirstAt second q → getD second p 0 ≡ getD second q 0 → p ≡ q
@@ -102,23 +103,30 @@ found-owner {second} nz f = f .first (f .sure (omega arith)) ∙ own-first secon
 
 -- ---- building
 
+-- a search that did not give up has found the first column of its code
+found-hit : {second : List ℕ} {c n limit r : ℕ} → Found second c n limit r → r ≤ n → Hit second c 0 n r
+found-hit {second} {c} {n} f w = subst (λ (z : ℕ). Hit second c 0 n z) (sym (f .first w)) (first-hit second c 0 n)
+
 -- whether an index is a first column, by what the search among those before it says
 pub is-new : {second : List ℕ} {n limit r : ℕ} → 0 < getD second n 0 → Found second (getD second n 0) n limit r → r ≡ 0 → FirstAt second n
-is-new {second} {n} {limit} {r} l f z =
-    let none : r ≡ firstIn second (getD second n 0) 0 n = f .first (omega arith) in
-    record {
-      kmer = λ e. absurd (omega arith);
-      new = λ q k g. absurd (omega (arith, first-hit second (getD second n 0) 0 n .before q (omega arith) k g .0));
-    }
+is-new l f z = record {
+  kmer = λ e. absurd (omega arith);
+  new = λ q k g. absurd (omega (arith, found-hit f (omega arith) .before q (omega arith) k g .0));
+}
 
 pub is-old : {second : List ℕ} {n limit r : ℕ} → Found second (getD second n 0) n limit r → r ≤ n → (r ≡ 0 → ⊥) → FirstAt second n → ⊥
-is-old {second} {n} {limit} {r} f w z g =
-    let e : r ≡ firstIn second (getD second n 0) 0 n = f .first w in
-    let h = rw (sym e) at (first-hit second (getD second n 0) 0 n) in
-    g .new (r - 1) (omega arith) (h .here (omega arith))
+is-old {r = r} f w z g = g .new (r - 1) (omega arith) (found-hit f w .here (omega arith))
 
 pub is-empty : {second : List ℕ} {n : ℕ} → getD second n 0 ≤ 0 → FirstAt second n → ⊥
 is-empty l f = f .kmer (omega arith)
+
+-- a first column is its own owner, and every other column's is the one that the search among those before it found
+pub owner-new : {second : List ℕ} {n : ℕ} → n < length second → FirstAt second n → n + 1 ≡ ownOf second (getD second n 0)
+owner-new {n = n} l f = add-one n ∙ is-owner (f .kmer) (hit-at n (omega arith) l refl (λ q a b e. f .new q b e))
+
+pub owner-old : {second : List ℕ} {n limit r : ℕ} → n < length second → 0 < getD second n 0 → Found second (getD second n 0) n limit r → r ≤ n
+    → (r ≡ 0 → ⊥) → r ≡ ownOf second (getD second n 0)
+owner-old l nz f w z = is-owner (λ e. omega arith) (more-found (omega arith) (found-hit f w) (omega arith))
 
 pub table-start : {second bucket link : List ℕ} → length bucket ≡ 32768 → length second ≤ length link → ((h : ℕ) → getD bucket h 0 ≡ 0)
     → Table second bucket link 0

@@ -33,3 +33,8 @@ pub record Table (second bucket link : List ℕ) (n : ℕ) : Type 0 where
 pub record Found (second : List ℕ) (c n limit r : ℕ) : Type 0 where
   pub first : r ≤ n → r ≡ firstIn second c 0 n
   pub sure : n ≤ limit → r ≤ n
+
+-- own is as long as it was, and behind its first n numbers as it was
+pub record Kept (own₀ own : List ℕ) (n : ℕ) : Type 0 where
+  pub long : length own ≡ length own₀
+  pub others : (p : ℕ) → n ≤ p → getD own p 0 ≡ getD own₀ p 0

@@ -6,7 +6,7 @@ ghost use Prim.Native.Nat.{_+_, _<_, _≤_};
 ghost use lib.ListN.{length};
 ghost use Rattle.order.specs.Order.{Ordered};
 ghost use Rattle.owners.specs.Owners.{ownOf, Owned};
-ghost use Rattle.owners.specs.Table.{hashOf, FirstAt, Table, Found};
+ghost use Rattle.owners.specs.Table.{hashOf, FirstAt, Table, Found, Kept};
 ghost use Rattle.owners.specs.Lower.{Lower};
 
 // ---- by a table: for each hash a list of first columns, the last one first
@@ -57,11 +57,15 @@ fn put(second: &[u64], bucket: &mut [u32], link: &mut [u32], n: usize)
     bucket[h] = (n + 1) as u32;
 }
 
-// The table of all columns, at 64 looks a column or fewer; false where that is not enough, as with codes made to share a hash.
-fn build(second: &[u64], bucket: &mut [u32], link: &mut [u32]) -> bool
+// The table of all columns, and each column's owner in own, at 64 looks a column or fewer; false where that is not enough, as with codes
+// made to share a hash.
+fn build(second: &[u64], bucket: &mut [u32], link: &mut [u32], own: &mut [u32]) -> bool
     requires { ⌜ length (now second) ≤ 16384 ⌝ }
+    requires { ⌜ length (now second) ≤ length (now own) ⌝ }
     requires { ⌜ Table (now second) (now bucket) (now link) 0 ⌝ }
     ensures { λ r. ⌜ (r ≡ true → Table (now (second .entry)) (now (bucket .exit)) (now (link .exit)) (length (now (second .entry)))) ⌝ }
+    ensures { λ r. ⌜ (r ≡ true → Owned (now (second .entry)) (now (second .entry)) (now (own .entry)) (now (own .exit)) (length (now (second .entry)))) ⌝ }
+    ensures { λ _. ⌜ Kept (now (own .entry)) (now (own .exit)) (length (now (second .entry))) ⌝ }
 {
     let mut j = 0;
     while j < second.len() {
@@ -75,7 +79,12 @@ fn build(second: &[u64], bucket: &mut [u32], link: &mut [u32]) -> bool
             }
             if r == 0 {
                 put(second, bucket, link, n);
+                own[n] = (n + 1) as u32;
+            } else {
+                own[n] = r as u32;
             }
+        } else {
+            own[n] = 0;
         }
     }
     true
@@ -183,8 +192,8 @@ fn own_by_order(first: &[u64], second: &[u64], own: &mut [u32], heads: &mut [u32
 
 // ---- the whole
 
-// The owner of every column's code in own, and of every row's in heads: at most 64 looks a column to build, 65 a column and a row to
-// look up, or else n log n turns. The local arrays hold places only.
+// The owner of every column's code in own, and of every row's in heads: at most 64 looks a column to build, 65 a row to look up, or
+// else n log n turns. The local arrays hold places only.
 pub fn own_all(first: &[u64], second: &[u64], own: &mut [u32], heads: &mut [u32])
     requires { ⌜ length (now second) ≤ 16384 ⌝ }
     requires { ⌜ length (now second) ≤ length (now own) ⌝ }
@@ -194,9 +203,8 @@ pub fn own_all(first: &[u64], second: &[u64], own: &mut [u32], heads: &mut [u32]
 {
     let mut bucket = [0u32; 32768];
     let mut link = [0u32; 16384];
-    let short = build(second, &mut bucket, &mut link);
+    let short = build(second, &mut bucket, &mut link, own);
     if short {
-        owners_by_table(second, second, &bucket, &link, own);
         owners_by_table(first, second, &bucket, &link, heads);
         return;
     }

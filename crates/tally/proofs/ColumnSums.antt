@@ -41,10 +41,10 @@ counts-set released seen counts j v l h others here = record { places = length-s
 
 module _ (released seen : List Cell) (counts : List ℕ) (v : ColumnCounts released seen counts) (x : Cell) (inside : x .column ≤ 16384) where
   -- released: its column counts one less
-  pub counts-less : count (inColumn (x .column)) (released ++ (x ∷ [])) ≤ count (inColumn (x .column)) seen
-      → ColumnCounts (released ++ (x ∷ [])) seen (set counts (x .column) (getD counts (x .column) 0 - 1))
-  counts-less h =
-      counts-set (released ++ (x ∷ [])) seen counts (x .column) (getD counts (x .column) 0 - 1) (v .places) inside
+  pub counts-less : (less : ℕ) → (less + 1) % 2 ^ 32 ≡ getD counts (x .column) 0 → count (inColumn (x .column)) (released ++ (x ∷ [])) ≤ count (inColumn (x .column)) seen
+      → less < 2 ^ 32 → ColumnCounts (released ++ (x ∷ [])) seen (set counts (x .column) less)
+  counts-less less e h small =
+      counts-set (released ++ (x ∷ [])) seen counts (x .column) less (v .places) inside
       (λ q n. rw (column-other released x q n) (v .each q)) (omega (arith, v .each (x .column), column-here released x))
 
   -- seen: its column counts one more

@@ -5,6 +5,7 @@ pub mod MatchedRows
 pub mod Runs
 pub mod Pairs
 pub mod ColumnSums
+pub mod Windows
 pub mod Releases
 pub mod Links
 pub mod Unique

@@ -22,7 +22,7 @@ use Rattle.rules.proofs.MatchList.{row-in, matches-in}
 use Rattle.rules.proofs.Sweeps.{matchedTo}
 use Rattle.matches.specs.Walks.{NextMatch, RowWalk, NextsSafe, Described}
 use Rattle.tally.specs.Tallies.{Linked}
-use Rattle.tally.specs.Columns.{inColumn, ColumnCounts, sumFrom, Released, RowAdded}
+use Rattle.tally.specs.Columns.{inColumn, ColumnCounts, windowSum, Released, RowAdded}
 use Rattle.tally.proofs.Walks.{walk-step, walk-end}
 use Rattle.tally.proofs.Counting.{count-same}
 use Rattle.tally.proofs.MatchedRows.{rows-from, matched-start, matched-step, matched-end, matched-count, matched-short}
@@ -63,7 +63,8 @@ module _ (hit : Cell → Bool) (columns b i p j : ℕ) (after : p < j) where
 
   -- how many left extensions it has
   left-sum : (counts : List ℕ) → ColumnCounts (matchesTo hit columns (i - b)) (matchedTo b hit columns i p) counts
-      → sumFrom counts (j - b) (j + 1 - (j - b)) ≡ count (λ x. leftExtension b x (cell (suc i) j)) (matchedTo b hit columns i p)
+      → windowSum counts b j ≡ count (λ x. leftExtension b x (cell (suc i) j)) (matchedTo b hit columns i p)
+  unfolding windowSum
   left-sum counts v =
       let left : Cell → Bool = λ x. leftExtension b x (cell (suc i) j) in
       let here = inColumns (j - b) (j + 1 - (j - b)) in
@@ -122,7 +123,7 @@ module _ {nexts : List ℕ} {start b : ℕ} {old : List ℕ} {links : ℕ} where
       }
 
   module _ {counts : List ℕ} {total j : ℕ} (v : AddLoop nexts start b old links counts total j) where
-    pub add-next : NextsSafe nexts → 1 ≤ j → {n total′ : ℕ} → n ≡ sumFrom counts (j - b) (j + 1 - (j - b)) → total′ ≡ (total + n) % 2 ^ 64
+    pub add-next : NextsSafe nexts → 1 ≤ j → {n total′ : ℕ} → n ≡ windowSum counts b j % 2 ^ 32 → total′ ≡ (total + n) % 2 ^ 64
         → AddLoop nexts start b old links (set counts j ((getD counts j 0 + 1) % 2 ^ 32)) total′ (getD nexts (j - 1) 0)
     add-next safe h {n} {total′} en et =
         record {
@@ -137,6 +138,7 @@ module _ {nexts : List ℕ} {start b : ℕ} {old : List ℕ} {links : ℕ} where
             let e = matched-step b hit columns i (s .passed) j (t .adds) in
             let more = left-sum hit columns b i (s .passed) j (t .after) counts (s .counted) in
             let pairs-are = pairs-next hit columns b i (s .passed) j (t .after) (t .adds) in
+            let few = count-short b hit columns i (s .passed) r k (s .inside) (λ x. leftExtension b x (cell (suc i) j)) in
             let exact : total + n ≡ pairs b (matchedTo b hit columns i j) = omega (arith, s .linked) in
             record {
               passed = j;

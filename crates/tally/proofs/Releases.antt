@@ -2,7 +2,7 @@
 use mathlib.Core.Path.{_≡_, subst}
 use mathlib.Core.Bool.{Bool}
 use mathlib.Core.List.{List}
-use Prim.Native.Nat.{ℕ, suc, _-_, _≤_, _<_}
+use Prim.Native.Nat.{ℕ, suc, _+_, _-_, _%_, _^_, _≤_, _<_}
 use native.Mathlib.Omega.{arith}
 use lib.ListN.{length, getD, set}
 use Rattle.rules.specs.declared.Cell.{Cell}
@@ -38,15 +38,16 @@ module _ {nexts : List ℕ} {start : ℕ} {old : List ℕ} where
       }
 
   module _ {counts : List ℕ} {j : ℕ} (v : ReleaseLoop nexts start old counts j) where
-    pub release-next : NextsSafe nexts → 1 ≤ j → ReleaseLoop nexts start old (set counts j (getD counts j 0 - 1)) (getD nexts (j - 1) 0)
-    release-next safe h =
+    pub release-next : NextsSafe nexts → 1 ≤ j → {less : ℕ} → (less + 1) % 2 ^ 32 ≡ getD counts j 0 → less < 2 ^ 32
+        → ReleaseLoop nexts start old (set counts j less) (getD nexts (j - 1) 0)
+    release-next safe h {less} one small =
         record {
           inside = safe .inside (j - 1);
           walked = λ hit m i columns w l u. turn hit m i columns w l (v .walked hit m i columns w l u);
         }
       where
         turn : (hit : Cell → Bool) (m i columns : ℕ) → RowWalk hit (suc m) columns start nexts → m < i → ReleaseAt hit m i columns counts j
-            → ReleaseAt hit m i columns (set counts j (getD counts j 0 - 1)) (getD nexts (j - 1) 0)
+            → ReleaseAt hit m i columns (set counts j less) (getD nexts (j - 1) 0)
         turn hit m i columns w l s =
             let t = walk-step hit (suc m) columns start nexts w (s .passed) j (s .next) h in
             let e = matched-step 0 hit columns m (s .passed) j (t .adds) in
@@ -62,7 +63,9 @@ module _ {nexts : List ℕ} {start : ℕ} {old : List ℕ} where
               passed = j;
               inside = t .inside;
               next = t .next;
-              counted = rw e (counts-less (matchedTo 0 hit columns m (s .passed)) (matchesTo hit columns i) counts (s .counted) (cell (suc m) j) (omega (arith, v .inside, safe .few-columns)) (rw e at enough));
+              counted =
+                  rw e (counts-less (matchedTo 0 hit columns m (s .passed)) (matchesTo hit columns i) counts (s .counted) (cell (suc m) j) (omega (arith, v .inside, safe .few-columns))
+                  less one (rw e at enough) small);
             }
 
     pub release-end : j ≡ 0 → RowReleased nexts start old counts

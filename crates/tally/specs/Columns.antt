@@ -1,9 +1,9 @@
 -- How many matches each column has, of those seen and not yet released: the counts that the link total is summed from. Assumes nothing.
 use mathlib.Core.Path.{_≡_}
-use mathlib.Core.Bool.{Bool}
+use mathlib.Core.Bool.{Bool, _&&_}
 use mathlib.Core.List.{List}
-use Prim.Native.Nat.{ℕ, zero, suc, _+_, _-_, _≤_, _<_}
-use lib.Dec.{eqb}
+use Prim.Native.Nat.{ℕ, zero, suc, _+_, _-_, _%_, _^_, _≤_, _<_}
+use lib.Dec.{eqb, leb}
 use lib.ListN.{length, getD}
 use Rattle.rules.specs.declared.Cell.{Cell}
 use Rattle.rules.specs.Lists.{count}
@@ -23,6 +23,20 @@ pub record ColumnCounts (released seen : List Cell) (counts : List ℕ) : Type 0
 unfoldable pub sumFrom : List ℕ → ℕ → ℕ → ℕ
 sumFrom counts lo zero = 0
 sumFrom counts lo (suc n) = sumFrom counts lo n + getD counts (lo + n) 0
+
+-- the sum over the window of column j, which is columns j - b to j
+unfoldable pub windowSum : List ℕ → ℕ → ℕ → ℕ
+unfolding sumFrom
+windowSum counts b j = sumFrom counts (j - b) (j + 1 - (j - b))
+
+-- the window of column `at` holds so much, modulo 2 ^ 32
+pub record Held (counts : List ℕ) (b at held : ℕ) : Type 0 where
+  pub places : length counts ≡ 16385
+  pub sum : held ≡ windowSum counts b at % 2 ^ 32
+
+-- column q is in the window of column j
+unfoldable pub inWindow : ℕ → ℕ → ℕ → Bool
+inWindow b j q = leb (j - b) q && leb q j
 
 -- row m + 1 of those seen, rows 1 to i, is released after rows 1 to m
 pub record RowReleased (nexts : List ℕ) (start : ℕ) (old new : List ℕ) : Type 0 where

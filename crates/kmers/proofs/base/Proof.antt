@@ -1,34 +1,46 @@
--- Each arm is the place of its byte in ACGT, and the last that of a byte that is not there. Assumes nothing.
-use borrow.Author.Tests.{ne-eqb}
-use Rattle.rules.specs.Places.{baseOf}
+-- Either way out is right by the rule of the two bits at this byte. Assumes nothing.
+use borrow.Author.Needs.{needs}
+use native.Mathlib.Omega.{arith}
+use Rattle.kmers.proofs.Bases.{twoOf, baseWith, two-low, with-low, base-is, base-none}
 use Rattle.kmers.proofs.base.Statement.{statement}
 use Rattle.kmers.proofs.base.Tie as tie
 
+mul-expected : tie.Need-mul-expected
+unfolding twoOf
+mul-expected c = record { fits = omega (arith, two-low (c .args .letter) (search needs)) }
+
+cast-expected : tie.Need-cast-expected
+unfolding twoOf
+cast-expected c = record { fits = omega (arith, two-low (c .args .letter) (search needs)) }
+
+shr-expected : tie.Need-shr-expected
+unfolding twoOf
+shr-expected c = omega (arith, two-low (c .args .letter) (search needs))
+
+cast-expected-2 : tie.Need-cast-expected-2
+unfolding baseWith
+cast-expected-2 c = record { fits = omega (arith, with-low (c .args .letter) (search needs)) }
+
+cast-result : tie.Need-cast-result
+unfolding twoOf
+cast-result c = record { fits = omega (arith, two-low (c .before .args .letter) (search needs)) }
+
 returns : tie.Need-returns
-unfolding baseOf
-returns c = rw (c .match .keys1)
+unfolding baseWith
+returns c = base-is (c .before .args .letter) (search needs) (c .if1 .taken)
 
 returns-2 : tie.Need-returns-2
-unfolding baseOf
-returns-2 c = rw (c .match .keys2)
-
-returns-3 : tie.Need-returns-3
-unfolding baseOf
-returns-3 c = rw (c .match .keys3)
-
-returns-4 : tie.Need-returns-4
-unfolding baseOf
-returns-4 c = rw (c .match .keys4)
-
-returns-5 : tie.Need-returns-5
-unfolding baseOf
-returns-5 c =
-    simp (
-      ne-eqb (c .before .args .letter) 65 (c .match .rest .0 .0 .0 .1),
-      ne-eqb (c .before .args .letter) 67 (c .match .rest .0 .0 .1),
-      ne-eqb (c .before .args .letter) 71 (c .match .rest .0 .1),
-      ne-eqb (c .before .args .letter) 84 (c .match .rest .1),
-    )
+unfolding baseWith
+returns-2 c = base-none (c .before .args .letter) (search needs) (c .if1 .left)
 
 pub base-spec : {M : Type 1} → statement M
-base-spec = tie.close (tie.spec returns returns-2 returns-3 returns-4 returns-5)
+base-spec =
+    tie.close
+    (tie.spec
+    mul-expected
+    cast-expected
+    shr-expected
+    cast-expected-2
+    cast-result
+    returns
+    returns-2)

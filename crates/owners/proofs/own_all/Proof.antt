@@ -1,9 +1,10 @@
--- Both ways end with every owner written: by the table where it could be built, and else by the sort.
+-- Both ways end with every owner written: by the table where it could be built, and else by the sort, over what `build` had written.
 use Prim.Native.Nat.{ℕ}
 use native.Mathlib.Omega.{arith}
 use lib.ListN.{length-replicate}
 use borrow.Author.Needs.{needs}
 use Rattle.order.proofs.Cases.{zero-at}
+use Rattle.owners.proofs.Owns.{owned-over}
 use Rattle.owners.proofs.Tables.{table-start}
 use Rattle.owners.proofs.own_all.Statement.{statement}
 use Rattle.owners.proofs.own_all.Tie as tie
@@ -16,8 +17,8 @@ slice-aggregate-build-2 c = search needs
 
 build-requires : tie.Need-build-requires
 build-requires c κs =
-    let s = c .before .before .before .before .before .before in
-    (s .pre .0, table-start (length-replicate {A = ℕ} 32768 0) (omega (arith, length-replicate {A = ℕ} 16384 0)) (zero-at 32768))
+    let s = c .before .before .before .before .before .before .before .pre in
+    (s .0, (s .1 .0, table-start (length-replicate {A = ℕ} 32768 0) (omega (arith, length-replicate {A = ℕ} 16384 0)) (zero-at 32768)))
 
 slice-aggregate-owners-by-table : tie.Need-slice-aggregate-owners-by-table
 slice-aggregate-owners-by-table c = search needs
@@ -27,21 +28,9 @@ slice-aggregate-owners-by-table-2 c = search needs
 
 owners-by-table-requires : tie.Need-owners-by-table-requires
 owners-by-table-requires c κs =
-    let built = c .before .before .before .before .before .before in
-    let s = built .before .before .before .before .before .before .before .pre in
-    (s .0, (s .1 .0, built .build .ensures (c .before .before .before .if1 .taken)))
-
-slice-aggregate-owners-by-table-3 : tie.Need-slice-aggregate-owners-by-table-3
-slice-aggregate-owners-by-table-3 c = search needs
-
-slice-aggregate-owners-by-table-4 : tie.Need-slice-aggregate-owners-by-table-4
-slice-aggregate-owners-by-table-4 c = search needs
-
-owners-by-table-requires-2 : tie.Need-owners-by-table-requires-2
-owners-by-table-requires-2 c κs =
-    let built = c .before .before .before .before .before .before .before .before .before .before .before .before in
-    let s = built .before .before .before .before .before .before .before .pre in
-    (s .0, (s .1 .1, built .build .ensures (c .before .before .before .before .before .before .before .before .before .if1 .taken)))
+    let built = c .before .before .before .before .before .before .before .before in
+    let s = built .before .before .before .before .before .before .before .before .pre in
+    (s .0, (s .1 .1, built .build .ensures .0 (c .before .before .before .if1 .taken)))
 
 same-length : tie.Need-same-length
 same-length c = search needs
@@ -50,7 +39,9 @@ same-length-2 : tie.Need-same-length-2
 same-length-2 c = search needs
 
 returns : tie.Need-returns
-returns c = search needs
+returns c =
+    let built = c .before .before .before .before .before .before .before .before .before .before .before in
+    (built .build .ensures .1 .0 (c .before .before .before .before .before .before .if1 .taken), c .before .before .owners-by-table .ensures)
 
 own-by-order-requires : tie.Need-own-by-order-requires
 own-by-order-requires c κs = search needs
@@ -62,7 +53,10 @@ same-length-4 : tie.Need-same-length-4
 same-length-4 c = search needs
 
 returns-2 : tie.Need-returns-2
-returns-2 c = search needs
+returns-2 c =
+    let sorted = c .before .before .before .before in
+    let built = sorted .before .before .before .before .before .before .before .before in
+    (owned-over (built .build .ensures .1 .1) (sorted .own-by-order .ensures .0), sorted .own-by-order .ensures .1)
 
 pub own-all-spec : {M : Type 1} → statement M
 own-all-spec =
@@ -74,9 +68,6 @@ own-all-spec =
     slice-aggregate-owners-by-table
     slice-aggregate-owners-by-table-2
     owners-by-table-requires
-    slice-aggregate-owners-by-table-3
-    slice-aggregate-owners-by-table-4
-    owners-by-table-requires-2
     same-length
     same-length-2
     returns

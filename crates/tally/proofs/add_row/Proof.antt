@@ -1,35 +1,36 @@
--- `tally::add_row` meets its contract: the row is counted and linked up to the column that the walk has passed. Assumes nothing.
+-- `tally::add_row` meets its contract: the row is counted and linked up to the column that the walk has passed, whose window is held. Assumes nothing.
+use mathlib.Core.Path.{_∙_}
+use Prim.Native.Nat.{_≤_}
 use native.Mathlib.Omega.{arith}
 use lib.ListN.{length}
+use Rattle.tally.specs.Columns.{Held}
 use Rattle.tally.proofs.Walks.{toCome, come-less}
+use Rattle.tally.proofs.Windows.{window-more}
 use Rattle.tally.proofs.Links.{AddLoop, add-start, add-next, add-end}
 use borrow.Author.Needs.{needs}
 use Rattle.tally.proofs.add_row.Statement.{statement}
 use Rattle.tally.proofs.add_row.Tie as tie
 
 abbrev Inv-loop : tie.InvT-loop
-Inv-loop nexts start b counts₀ links total₀ j₀ counts total j = AddLoop nexts start b counts₀ links counts total j
+Inv-loop nexts start b counts₀ total₀ at₀ held₀ j₀ counts total at held j = AddLoop nexts start b counts₀ total₀ counts total j × Held counts b at held
 
 abbrev μ-loop : tie.MeasureT-loop
-μ-loop nexts start b counts₀ links total₀ j₀ counts total j = toCome (length nexts) j
+μ-loop nexts start b counts₀ total₀ at₀ held₀ j₀ counts total at held j = toCome (length nexts) j
 
 loop-holds : tie.Need-loop-holds Inv-loop μ-loop
 loop-holds c =
     let s = c .before in
-    add-start (s .pre .1)
+    (add-start (s .pre .1 .0), s .pre .1 .1)
 
-minus-requires : tie.Need-minus-requires Inv-loop μ-loop
-minus-requires c κs = search needs
+-- the column of the walk is one of the 16,384
+inside : (c : tie.In-loop Inv-loop μ-loop) → c .before .loop .j ≤ 16384
+inside c = omega (arith, c .before .loop .inv .0 .inside, c .before .before .before .pre .0 .few-columns)
 
-add-sum : tie.Need-add-sum Inv-loop μ-loop
-add-sum c =
-    let l = c .before .before .before in
-    omega (arith, l .loop .inv .inside, l .before .before .pre .0 .few-columns)
+slide-requires : tie.Need-slide-requires Inv-loop μ-loop
+slide-requires c κs = (inside (c .before), c .before .before .loop .inv .1)
 
-sum-requires : tie.Need-sum-requires Inv-loop μ-loop
-sum-requires c κs =
-    let l = c .before .before .before in
-    omega (arith, l .loop .inv .inside, l .before .before .pre .0 .few-columns)
+long-requires : tie.Need-long-requires Inv-loop μ-loop
+long-requires c κs = search needs
 
 wrapping-add-u64-requires : tie.Need-wrapping-add-u64-requires Inv-loop μ-loop
 wrapping-add-u64-requires c κs = search needs
@@ -38,9 +39,7 @@ mul-wrapping-add-u32 : tie.Need-mul-wrapping-add-u32 Inv-loop μ-loop
 mul-wrapping-add-u32 c = omega arith
 
 element-copy-out-wrapping-add-u32 : tie.Need-element-copy-out-wrapping-add-u32 Inv-loop μ-loop
-element-copy-out-wrapping-add-u32 c =
-    let l = c .before .before .before .before .before in
-    omega (arith, l .loop .inv .inside, l .before .before .pre .0 .few-columns)
+element-copy-out-wrapping-add-u32 c = omega (arith, inside (c .before .before .before .before))
 
 wrapping-add-u32-requires : tie.Need-wrapping-add-u32-requires Inv-loop μ-loop
 wrapping-add-u32-requires c κs = search needs
@@ -49,9 +48,10 @@ mul-counts : tie.Need-mul-counts Inv-loop μ-loop
 mul-counts c = omega arith
 
 element-write-counts : tie.Need-element-write-counts Inv-loop μ-loop
-element-write-counts c =
-    let l = c .before .before .before .before .before .before .before in
-    omega (arith, l .loop .inv .inside, l .before .before .pre .0 .few-columns)
+element-write-counts c = omega (arith, inside (c .before .before .before .before .before .before))
+
+wrapping-add-u32-requires-2 : tie.Need-wrapping-add-u32-requires-2 Inv-loop μ-loop
+wrapping-add-u32-requires-2 c κs = search needs
 
 sub-wide : tie.Need-sub-wide Inv-loop μ-loop
 sub-wide c = omega arith
@@ -60,32 +60,38 @@ mul-wide : tie.Need-mul-wide Inv-loop μ-loop
 mul-wide c = omega arith
 
 shared-slice-read-wide : tie.Need-shared-slice-read-wide Inv-loop μ-loop
-shared-slice-read-wide c = omega (arith, c .before .before .before .before .before .before .before .before .loop .inv .inside)
+shared-slice-read-wide c = omega (arith, c .before .before .before .before .before .before .before .before .before .loop .inv .0 .inside)
 
 wide-requires : tie.Need-wide-requires Inv-loop μ-loop
 wide-requires c κs = search needs
 
 loop-less : tie.Need-loop-less Inv-loop μ-loop
 loop-less c =
-    let l = c .before .before .before .before .before .before .before .before .before in
+    let l = c .before .before .before .before .before .before .before .before .before .before in
     let s = l .before .before in
-    rw (c .wide .ensures .0) (come-less (s .args .nexts .now) (s .pre .0) (l .loop .j) (omega arith) (l .loop .inv .inside))
+    rw (c .wide .ensures .0) (come-less (s .args .nexts .now) (s .pre .0) (l .loop .j) (omega arith) (l .loop .inv .0 .inside))
 
 loop-again : tie.Need-loop-again Inv-loop μ-loop
 loop-again c =
-    let more = c .before .before in
+    let held = c .before .before in
+    let more = held .before in
     let total = more .before .before in
-    let m = total .before .before in
-    let l = m .before .before .before in
+    let long = total .before in
+    let slid = long .before in
+    let n = slid .before .before in
+    let l = n .before in
     let s = l .before .before in
-    rw (more .wrapping-add-u32 .ensures, c .wide .ensures .0)
-    (add-next (l .loop .inv) (s .pre .0) (omega arith)
-    (rw (m .minus .ensures) at (total .before .sum .ensures)) (total .wrapping-add-u64 .ensures))
+    let a = s .args in
+    let v = l .loop in
+    rw (more .wrapping-add-u32 .ensures, c .wide .ensures .0) (
+      add-next (v .inv .0) (s .pre .0) (omega arith) (long .long .ensures .0 ∙ slid .slide .ensures) (total .wrapping-add-u64 .ensures),
+      window-more (v .counts) (a .b) (v .inv .1 .places) (v .j) (inside n) (slid .slide .ensures) (held .wrapping-add-u322 .ensures),
+    )
 
 returns : tie.Need-returns Inv-loop μ-loop
 returns c =
     let l = c .before in
-    add-end (l .loop .inv) (omega arith)
+    (add-end (l .loop .inv .0) (omega arith), l .loop .inv .1)
 
 pub add-row-spec : {M : Type 1} → statement M
 add-row-spec =
@@ -94,15 +100,15 @@ add-row-spec =
     Inv-loop
     μ-loop
     loop-holds
-    minus-requires
-    add-sum
-    sum-requires
+    slide-requires
+    long-requires
     wrapping-add-u64-requires
     mul-wrapping-add-u32
     element-copy-out-wrapping-add-u32
     wrapping-add-u32-requires
     mul-counts
     element-write-counts
+    wrapping-add-u32-requires-2
     sub-wide
     mul-wide
     shared-slice-read-wide
