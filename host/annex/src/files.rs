@@ -93,7 +93,11 @@ fn check_text(bytes: &[u8]) -> Result<(), String> {
     if bytes.starts_with(b"\x1F\x8B") {
         return Err("the file is compressed (gzip); unpack it first".to_string());
     }
-    let odd = |&byte: &u8| byte.is_ascii_control() && !b"\t\n\r".contains(&byte);
+    let odd = |&byte: &u8| byte.is_ascii_control() && !matches!(byte, b'\t' | b'\n' | b'\r');
+    // A pass that never stops takes many bytes at a time, and nearly all files pass.
+    if !bytes.iter().fold(false, |any, byte| any | odd(byte)) {
+        return Ok(());
+    }
     for (line, text) in lines(bytes) {
         if let Some(byte) = text.iter().copied().find(odd) {
             return Err(format!("this is not text: byte {byte:02X} on line {line}"));

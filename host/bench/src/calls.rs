@@ -8,7 +8,7 @@ use hornbeamlet::{Answer, Library, Settings};
 use std::time::Duration;
 
 /// The reference is left out where it would take longer than this.
-const PATIENCE: Duration = Duration::from_secs(10);
+const PATIENCE: Duration = Duration::from_secs(3);
 
 const HEADINGS: [&str; 10] = [
     "pair",
@@ -116,8 +116,10 @@ pub fn print(title: &str, calls: &[Call]) {
     let skipped = calls.iter().filter(|call| call.reference.is_none());
     let expected = skipped.map(|call| expected_time(&call.job, call.answer));
     if let Some(longest) = expected.max() {
-        let minutes = longest.as_secs().div_ceil(60);
-        println!("Skipped: the reference would take more than 10 s, up to {minutes} minutes.\n");
+        let [seconds, minutes] = [PATIENCE.as_secs(), longest.as_secs().div_ceil(60)];
+        println!(
+            "Skipped: the reference would take more than {seconds} s, up to {minutes} minutes.\n"
+        );
     }
 }
 
@@ -143,16 +145,23 @@ fn row(call: &Call) -> Vec<String> {
     ]
 }
 
-/// How the time grows when both sequences become four times as long. The calls
-/// are those of the ordinary jobs, kind by kind at each of three lengths, and
-/// what comes after those is not looked at.
-pub fn print_growth(calls: &[Call]) {
+/// How many times as long a call takes when both sequences become four times as
+/// long, kind by kind. The calls are those of the ordinary jobs, kind by kind at
+/// each of three lengths, and what comes after those is not looked at.
+pub fn growths(calls: &[Call]) -> Vec<(&'static str, f64)> {
     let by_length: Vec<&[Call]> = calls.chunks(KINDS.len()).collect();
     let pairs = by_length[1].iter().zip(by_length[2]).zip(KINDS);
-    let row = |((shorter, longer), (kind, _)): ((&Call, &Call), (&str, usize))| {
-        vec![kind.to_string(), times(ratio(longer.time, shorter.time))]
+    let growth = |((shorter, longer), (kind, _)): ((&Call, &Call), (&'static str, usize))| {
+        (kind, ratio(longer.time, shorter.time))
     };
-    let rows: Vec<Vec<String>> = pairs.map(row).collect();
+    pairs.map(growth).collect()
+}
+
+/// The table of growths.
+pub fn print_growths(calls: &[Call]) {
+    let growths = growths(calls).into_iter();
+    let rows = growths.map(|(kind, growth)| vec![kind.to_string(), times(growth)]);
+    let rows: Vec<Vec<String>> = rows.collect();
     let title = "Growth from 4,096 to 16,384 letters, where 4 × is linear";
     table::print(title, &["pair", "growth"], &rows);
 }

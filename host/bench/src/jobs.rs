@@ -58,9 +58,22 @@ fn totals<'a>(sequences: &[&'a [u8]], k: usize) -> HashMap<&'a [u8], u32> {
 /// The jobs on which two libraries are compared, in groups to be measured each
 /// on its own: those of the last take a second, and all others far less.
 pub fn compared() -> [Vec<Job>; 2] {
-    let of_two_letters = |job: &Job| job.settings.k == 5;
-    let (long, short) = worst().into_iter().partition(of_two_letters);
+    let [short, long] = worst_by_time();
     [[longest(), over_the_cap(), short].concat(), long]
+}
+
+/// The jobs whose time is told stage by stage, grouped in the same way.
+pub fn staged() -> [Vec<Job>; 2] {
+    let [short, long] = worst_by_time();
+    [[longest(), short].concat(), long]
+}
+
+/// The worst jobs, those that take a second apart from all others: two letters
+/// have few k-mers, and so the most matches.
+fn worst_by_time() -> [Vec<Job>; 2] {
+    let of_two_letters = |job: &Job| job.first.iter().all(|letter| b"AC".contains(letter));
+    let (long, short) = worst().into_iter().partition(of_two_letters);
+    [short, long]
 }
 
 /// Pairs of three lengths, and of every kind at each length: a sequence and a
@@ -169,8 +182,8 @@ pub fn over_the_cap() -> Vec<Job> {
     let unused = Job {
         name: "16,384, all over the cap".to_string(),
         settings: Settings { k: 5, ..ORDINARY },
-        first: all_words(&mut random),
-        second: all_words(&mut random),
+        first: all_words(&mut random, b"AC"),
+        second: all_words(&mut random, b"AC"),
     };
     vec![repeats, families, unused]
 }
@@ -178,21 +191,27 @@ pub fn over_the_cap() -> Vec<Job> {
 /// Jobs that ask for as much room or time as any that is accepted, or nearly.
 pub fn worst() -> Vec<Job> {
     let mut random = Random::new(2);
-    let strewn = all_words(&mut random);
-    let others = all_words(&mut random);
+    let strewn = all_words(&mut random, b"AC");
+    let others = all_words(&mut random, b"AC");
     let cycle = de_bruijn_cycle().repeat(LONGEST / 32);
-    let reversed: Vec<u8> = strewn.iter().rev().copied().collect();
-    let reversed_cycle: Vec<u8> = cycle.iter().rev().copied().collect();
     let (falling, rising) = antidiagonal();
     let (sharing, shuffled) = sharing_a_hash(&mut random);
+    let strewn_of_four = all_words(&mut random, b"ACGT");
     vec![
         worst_job("32 k-mers, random order", 5, strewn.clone(), others),
-        worst_job("32 k-mers, second reversed", 5, strewn, reversed),
+        and_reversed("32 k-mers, second reversed", strewn),
         worst_job("32 k-mers in cycles", 5, cycle.clone(), cycle.clone()),
-        worst_job("cycles, second reversed", 5, cycle, reversed_cycle),
+        and_reversed("cycles, second reversed", cycle),
+        and_reversed("1,024 k-mers, second reversed", strewn_of_four),
         worst_job("antidiagonal", 6, falling, rising),
         worst_job("k-mers that share a hash", 13, sharing, shuffled),
     ]
+}
+
+/// A sequence of words of five letters, and the same read from its end.
+fn and_reversed(name: &str, first: Vec<u8>) -> Job {
+    let reversed = first.iter().rev().copied().collect();
+    worst_job(name, 5, first, reversed)
 }
 
 fn worst_job(name: &str, k: u32, first: Vec<u8>, second: Vec<u8>) -> Job {
@@ -210,16 +229,21 @@ fn worst_job(name: &str, k: u32, first: Vec<u8>, second: Vec<u8>) -> Job {
     }
 }
 
-/// 16,384 letters of A and C that hold each of the 32 words of five letters 512
-/// times, in random order. Two sequences of this kind hold each 1,024 times,
-/// just what the repeat cap allows.
+/// 16,384 letters of an alphabet that hold each of its words of five letters
+/// equally often, in random order: of two letters the 32 words 512 times each, of
+/// four the 1,024 words 16 times. Two sequences of two letters hold each word
+/// 1,024 times, just what the repeat cap allows.
 ///
-/// It is a walk through all edges of a graph: at each of the 16 words of four
-/// letters, 512 edges append A and 512 append C. As many edges lead in as lead
-/// out, so a walk that takes them in any order closes where it began, and walks
-/// begun at edges left over are put in between (Hierholzer's way).
-fn all_words(random: &mut Random) -> Vec<u8> {
-    let mut edges: Vec<Vec<u8>> = vec![[[0; 512], [1; 512]].concat(); 16];
+/// It is a walk through all edges of a graph: at each word of four letters,
+/// equally many edges append each letter. As many edges lead in as lead out, so a
+/// walk that takes them in any order closes where it began, and walks begun at
+/// edges left over are put in between (Hierholzer's way).
+fn all_words(random: &mut Random, alphabet: &[u8]) -> Vec<u8> {
+    let letters = alphabet.len();
+    let words_of_four = letters.pow(4);
+    let times = LONGEST / (letters * words_of_four);
+    let leaving: Vec<usize> = (0..letters * times).map(|edge| edge / times).collect();
+    let mut edges = vec![leaving; words_of_four];
     for leaving in &mut edges {
         random.shuffle(leaving);
     }
@@ -227,9 +251,9 @@ fn all_words(random: &mut Random) -> Vec<u8> {
     let mut walk = Vec::with_capacity(LONGEST);
     while let Some(&(word, appended)) = open.last() {
         match edges[word].pop() {
-            Some(letter) => open.push(((word << 1 | letter as usize) & 15, letter)),
+            Some(letter) => open.push(((word * letters + letter) % words_of_four, letter)),
             None => {
-                walk.push(b"AC"[appended as usize]);
+                walk.push(alphabet[appended]);
                 open.pop();
             }
         }
@@ -286,13 +310,39 @@ mod tests {
         for job in worst() {
             assert!(job.first.len() <= LONGEST && job.second.len() <= LONGEST);
             if job.settings.k == 5 {
-                for sequence in [&job.first, &job.second] {
-                    let totals = totals(&[sequence], 5);
-                    assert_eq!(totals.len(), 32, "{}", job.name);
-                    assert!(totals.values().all(|total| (508..=512).contains(total)));
-                }
+                let of_four_letters = job.name.starts_with("1,024");
+                holds_all_words(&job, if of_four_letters { 1_024 } else { 32 });
+            }
+            if job.name.ends_with("second reversed") {
+                assert!(job.first.iter().rev().eq(&job.second), "{}", job.name);
             }
         }
+    }
+
+    /// So many words in either sequence, each equally often but for the four that
+    /// a walk misses which does not end where it began.
+    fn holds_all_words(job: &Job, words: usize) {
+        let each = (LONGEST / words) as u32;
+        for sequence in [&job.first, &job.second] {
+            let totals = totals(&[sequence], 5);
+            assert_eq!(totals.len(), words, "{}", job.name);
+            assert!(totals
+                .values()
+                .all(|total| (each - 4..=each).contains(total)));
+        }
+    }
+
+    #[test]
+    fn the_worst_jobs_of_two_letters_are_those_that_take_a_second() {
+        let [short, long] = worst_by_time();
+        let names: Vec<&str> = short.iter().map(|job| job.name.as_str()).collect();
+        let expected = [
+            "1,024 k-mers, second reversed",
+            "antidiagonal",
+            "k-mers that share a hash",
+        ];
+        assert_eq!(names, expected);
+        assert_eq!(short.len() + long.len(), worst().len());
     }
 
     #[test]

@@ -14,16 +14,17 @@ pub struct Lent {
 }
 
 impl Lent {
-    /// The library tells how much the job needs.
+    /// The library's own listing tells how much the job needs. The rooms are lent
+    /// full of numbers, so that all of their memory is there before a call is timed.
     pub fn new(library: &Library, job: &Job) -> Lent {
-        let (settings, first, second) = (job.settings, &job.first, &job.second);
-        let records = library.need(settings, first, second);
-        let mut work = vec![0; RECORD * records as usize];
-        let short = library.compare(settings, first, second, &mut work, &mut []);
-        let mut list = vec![0; ENTRY * short.detail as usize];
-        let answer = library.compare(settings, first, second, &mut work, &mut list);
-        assert_eq!(answer.number, 0, "{} was refused", job.name);
-        Lent { work, list, answer }
+        let listed = library.list(job.settings, &job.first, &job.second);
+        let refused = |refusal| panic!("{} was refused: {refusal:?}", job.name);
+        let answer = listed.unwrap_or_else(refused).answer;
+        Lent {
+            work: vec![1; RECORD * answer.widest as usize],
+            list: vec![1; ENTRY * answer.listed as usize],
+            answer,
+        }
     }
 
     /// One run. Whoever is asked, the answer is always the same.

@@ -8,17 +8,19 @@
 
 #![forbid(unsafe_code)]
 
+mod bounds;
 mod calls;
 mod jobs;
 mod lent;
 mod processes;
 mod server;
+mod stages;
 mod table;
 mod timing;
 mod versions;
 
 use hornbeamlet::with_library;
-use processes::Programs;
+use processes::{Processes, Programs};
 use std::env;
 use std::ffi::OsString;
 use std::io::{stdin, stdout};
@@ -49,12 +51,15 @@ fn print_all() -> Result<(), String> {
     with_library(|library| {
         let ordinary = calls::measure(library, jobs::ordinary());
         calls::print("The call `compare` on ordinary pairs", &ordinary);
-        calls::print_growth(&ordinary);
-        processes::print(&programs, &ordinary);
+        calls::print_growths(&ordinary);
+        let processes = Processes::measure(&programs, &ordinary);
+        processes.print();
         let over = calls::measure(library, jobs::over_the_cap());
         calls::print("The call `compare` where k-mers are over the cap", &over);
         let worst = calls::measure(library, jobs::worst());
         calls::print("The call `compare` on the worst jobs accepted", &worst);
+        stages::print(library, &jobs::staged());
+        bounds::print(&ordinary, &processes, &worst);
     });
     Ok(())
 }

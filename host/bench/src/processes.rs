@@ -35,8 +35,8 @@ impl Programs {
     /// Builds `annex`, which is not a part of this program, and looks for the
     /// others.
     pub fn find() -> Result<Programs, String> {
-        build_annex()?;
         let here = env::current_exe().map_err(|error| error.to_string())?;
+        build_annex(&here)?;
         let folder = here.with_file_name("bench-files");
         fs::create_dir_all(&folder).map_err(|error| error.to_string())?;
         let annex = |words: fn(&Job) -> _| Program {
@@ -92,13 +92,19 @@ impl Program {
     }
 }
 
-fn build_annex() -> Result<(), String> {
+/// Builds it beside this program, and from the folder whose .cargo/config.toml
+/// says how it is linked.
+fn build_annex(here: &Path) -> Result<(), String> {
     let cargo = env::var_os("CARGO").unwrap_or("cargo".into());
-    let manifest = Path::new(env!("CARGO_MANIFEST_DIR")).join("../Cargo.toml");
+    let target = here
+        .ancestors()
+        .nth(2)
+        .ok_or("this program has no folder")?;
     let built = Command::new(cargo)
+        .current_dir(Path::new(env!("CARGO_MANIFEST_DIR")).join(".."))
         .args(["build", "--quiet", "--release", "--offline", "-p", "annex"])
-        .arg("--manifest-path")
-        .arg(manifest)
+        .arg("--target-dir")
+        .arg(target)
         .status();
     match built {
         Ok(status) if status.success() => Ok(()),
@@ -129,31 +135,53 @@ fn silent(program: &Path) -> Command {
     command
 }
 
-/// The table of processes: the time of `annex`, of its start alone and of the
-/// call, and how many times as long the others take as `annex` and as the call.
-pub fn print(programs: &Programs, calls: &[Call]) {
-    let own = ["pair", "annex", "start alone", "the call"];
-    let mut headings = own.map(str::to_string).to_vec();
-    for against in ["annex", "the call"] {
-        let others = programs.found[OWN..].iter();
-        headings.extend(others.map(|it| format!("{} : {against}", it.name)));
-    }
-    let headings: Vec<&str> = headings.iter().map(String::as_str).collect();
-    let medians = measure(programs, calls);
-    let by_call = medians.chunks(programs.found.len());
-    let rows: Vec<Vec<String>> = calls.iter().zip(by_call).map(row).collect();
-    table::print("Whole processes, from files to output", &headings, &rows);
+/// The times of all programs on the pairs of some calls.
+pub struct Processes<'a> {
+    programs: &'a Programs,
+    calls: &'a [Call],
+    /// Those of all programs, call by call.
+    medians: Vec<Duration>,
 }
 
-/// The medians of all programs, job by job.
-fn measure(programs: &Programs, calls: &[Call]) -> Vec<Duration> {
-    let jobs = calls.iter().map(|it| (&it.job, programs.write(&it.job)));
-    let jobs: Vec<(&Job, [PathBuf; 2])> = jobs.collect();
-    let tasks = jobs
-        .iter()
-        .flat_map(|job| programs.found.iter().map(move |it| (it, job)));
-    let tasks: Vec<(&Program, &(&Job, [PathBuf; 2]))> = tasks.collect();
-    medians_in_turn(&tasks, |(program, (job, files))| program.run(job, files))
+impl<'a> Processes<'a> {
+    /// Runs all programs on all pairs, in turn.
+    pub fn measure(programs: &'a Programs, calls: &'a [Call]) -> Processes<'a> {
+        let jobs = calls.iter().map(|it| (&it.job, programs.write(&it.job)));
+        let jobs: Vec<(&Job, [PathBuf; 2])> = jobs.collect();
+        let tasks = jobs
+            .iter()
+            .flat_map(|job| programs.found.iter().map(move |it| (it, job)));
+        let tasks: Vec<(&Program, &(&Job, [PathBuf; 2]))> = tasks.collect();
+        let medians = medians_in_turn(&tasks, |(program, (job, files))| program.run(job, files));
+        Processes {
+            programs,
+            calls,
+            medians,
+        }
+    }
+
+    /// The table: the time of `annex`, of its start alone and of the call, and how
+    /// many times as long the others take as `annex` and as the call.
+    pub fn print(&self) {
+        let own = ["pair", "annex", "start alone", "the call"];
+        let mut headings = own.map(str::to_string).to_vec();
+        for against in ["annex", "the call"] {
+            let others = self.programs.found[OWN..].iter();
+            headings.extend(others.map(|it| format!("{} : {against}", it.name)));
+        }
+        let headings: Vec<&str> = headings.iter().map(String::as_str).collect();
+        let by_call = self.medians.chunks(self.programs.found.len());
+        let rows: Vec<Vec<String>> = self.calls.iter().zip(by_call).map(row).collect();
+        table::print("Whole processes, from files to output", &headings, &rows);
+    }
+
+    /// The times of a program, call by call, where it is installed.
+    pub fn times_of(&self, name: &str) -> Option<Vec<Duration>> {
+        let programs = &self.programs.found;
+        let at = programs.iter().position(|it| it.name == name)?;
+        let times = self.medians.iter().skip(at).step_by(programs.len());
+        Some(times.copied().collect())
+    }
 }
 
 fn row((call, medians): (&Call, &[Duration])) -> Vec<String> {

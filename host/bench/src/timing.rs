@@ -7,8 +7,12 @@ const ENOUGH: Duration = Duration::from_secs(15);
 const FEWEST: usize = 3;
 const MOST: usize = 301;
 
+/// A first round is not counted, as it finds nothing in the caches. One that takes
+/// longer than this is: its tasks leave nothing there for one another anyway.
+const WARMING: Duration = Duration::from_secs(2);
+
 /// The median times of tasks that take turns, so that whatever else is
-/// going on meets all of them alike. A first round is not counted.
+/// going on meets all of them alike.
 pub fn medians_in_turn<T>(tasks: &[T], mut run: impl FnMut(&T)) -> Vec<Duration> {
     medians_of_rounds(|| tasks.iter().map(|task| time(|| run(task))).collect())
 }
@@ -16,17 +20,18 @@ pub fn medians_in_turn<T>(tasks: &[T], mut run: impl FnMut(&T)) -> Vec<Duration>
 /// The same where a round does more than run its tasks one after the other: it
 /// gives the times of all, always in the same order.
 pub fn medians_of_rounds(mut round: impl FnMut() -> Vec<Duration>) -> Vec<Duration> {
-    let mut times = vec![Vec::new(); round().len()];
     let begun = Instant::now();
-    for counted in 0..MOST {
-        if counted >= FEWEST && begun.elapsed() > ENOUGH {
-            break;
-        }
-        for (taken, time) in times.iter_mut().zip(round()) {
-            taken.push(time);
-        }
+    let first = round();
+    let tasks = first.len();
+    let mut rounds = Vec::new();
+    if begun.elapsed() > WARMING {
+        rounds.push(first);
     }
-    times.into_iter().map(median).collect()
+    while rounds.len() < FEWEST || rounds.len() < MOST && begun.elapsed() <= ENOUGH {
+        rounds.push(round());
+    }
+    let times = |task: usize| rounds.iter().map(|round| round[task]).collect();
+    (0..tasks).map(|task| median(times(task))).collect()
 }
 
 /// The time of one run.

@@ -1,6 +1,6 @@
 //! The proved library as safe Rust: the C boundary of `include/hornbeamlet.h`
-//! with slices for pointers and lengths, and the way to a listing that lends
-//! exactly the rooms that are needed.
+//! with slices for pointers and lengths, and the way to a listing that lends the
+//! rooms that are needed.
 //!
 //! All unsafe code of the host is in the module `boundary`.
 //!

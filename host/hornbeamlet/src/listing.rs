@@ -2,9 +2,19 @@
 
 use crate::{Answer, Library, Settings, ENTRY, FORWARD, RECORD};
 
-/// Entries the list room holds at the first try: twelve thousand bytes. A longer
-/// listing is asked for again with room for just so many.
-const FIRST_TRY: usize = 512;
+/// Records the work room holds at the first try: 64 kB, enough for an ordinary
+/// pair, one full of repeats too. More would cost all of them time, as the library
+/// writes zeros over whole rooms.
+const FIRST_RECORDS: usize = 2_048;
+/// Entries the list room holds at the first try: 12 kB.
+const FIRST_ENTRIES: usize = 512;
+
+/// The number of the refusal of work room that is too short, whose detail is how
+/// many records are needed.
+const WORK_SHORT: u64 = 7;
+/// That of list room that is too short, whose detail is how many entries there
+/// are.
+const LIST_SHORT: u64 = 8;
 
 /// The strand of the second sequence on which an entry was found.
 #[derive(Clone, Copy, Debug, PartialEq, Eq)]
@@ -81,30 +91,26 @@ pub struct Refusal {
 }
 
 impl Library {
-    /// The listing of a job. Work room is lent exactly as `need` tells, list
-    /// room for some entries and, where that was short, for just so many as
-    /// there are. What is refused then is one of 1 to 6 or 9.
+    /// The listing of a job. Rooms of some size are lent at first and, where the
+    /// library tells that one was short, just as large as it asks for: three calls
+    /// at most, and one for an ordinary job. What is refused then is one of 1 to 6
+    /// or 9.
     pub fn list(
         &self,
         settings: Settings,
         first: &[u8],
         second: &[u8],
     ) -> Result<Listing, Refusal> {
-        let mut work = vec![0; RECORD * self.records_needed(settings, first, second)];
-        let mut list = vec![0; ENTRY * FIRST_TRY];
-        let mut answer = self.compare(settings, first, second, &mut work, &mut list);
-        if answer.number == 8 {
-            list.resize(ENTRY * answer.detail as usize, 0);
-            answer = self.compare(settings, first, second, &mut work, &mut list);
+        let mut work = vec![0; RECORD * FIRST_RECORDS];
+        let mut list = vec![0; ENTRY * FIRST_ENTRIES];
+        loop {
+            let answer = self.compare(settings, first, second, &mut work, &mut list);
+            match answer.number {
+                WORK_SHORT => work = vec![0; RECORD * answer.detail as usize],
+                LIST_SHORT => list = vec![0; ENTRY * answer.detail as usize],
+                _ => return listing(answer, &list),
+            }
         }
-        listing(answer, &list)
-    }
-
-    /// W, or 0 for a job that is refused: `compare` then refuses it before it
-    /// looks at the rooms, and tells the sequence and place as well.
-    fn records_needed(&self, settings: Settings, first: &[u8], second: &[u8]) -> usize {
-        let reply = self.need(settings, first, second);
-        u32::try_from(reply).map_or(0, |records| records as usize)
     }
 }
 

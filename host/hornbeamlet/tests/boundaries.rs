@@ -5,6 +5,7 @@
 
 use hornbeamlet::{with_library, Answer, Entry, Library, Refusal, Settings, Strand};
 use hornbeamlet::{BOTH, FORWARD, REFUSED, REVERSE};
+use reference::letters::reverse_complement;
 
 const STALE: u32 = 77;
 
@@ -262,13 +263,6 @@ fn the_listing_lends_what_is_needed() {
         };
         let listing = library.list(on_strand(BOTH, P1), b"ACCGT", b"ACGGT");
         assert_eq!(listing.unwrap().entries, [entry, reverse]);
-        // As many entries as the first try has room for, and one more.
-        let listed = |[first, second]: [Vec<u8>; 2]| {
-            let listing = library.list(settings(1, 1, 1_000, 0), &first, &second);
-            listing.unwrap().entries.len()
-        };
-        assert_eq!(listed(apart(16, 32)), 512);
-        assert_eq!(listed(apart(19, 27)), 513);
         let refusal = Refusal {
             number: 6,
             sequence: 2,
@@ -276,4 +270,66 @@ fn the_listing_lends_what_is_needed() {
         };
         assert_eq!(library.list(P1, b"ACCGT", b"ACGu"), Err(refusal));
     });
+}
+
+/// So many As in each sequence. With b 1,024 all matches lie in one window, and
+/// all but the last go on.
+fn together(rows: usize, columns: usize) -> [Vec<u8>; 2] {
+    [rows, columns].map(|count| vec![b'A'; count])
+}
+
+/// Three rows of one letter each, and so many columns of each letter. With b 2 all
+/// matches lie in one window, and none reaches another.
+fn apart_in_one_window(columns: usize) -> [Vec<u8>; 2] {
+    let columns = [b"ANN", b"CNN", b"GNN"].map(|unit| unit.repeat(columns));
+    [b"ACG".to_vec(), columns.concat()]
+}
+
+/// As many records or entries as the first try has room for, one more, and more
+/// of both.
+#[test]
+fn a_job_that_needs_more_than_the_first_try_is_listed_as_in_ample_rooms() {
+    let cases = [
+        (1_024, together(32, 64), [2_048, 1]),
+        (1_024, together(3, 683), [2_049, 1]),
+        (1, apart(16, 32), [32, 512]),
+        (1, apart(19, 27), [27, 513]),
+        (2, apart_in_one_window(683), [2_049, 2_049]),
+    ];
+    for (b, [first, second], needed) in cases {
+        let forward = settings(1, b, 1_024, 0);
+        let answer = listed_as_in_ample_rooms(forward, [&first, &second]);
+        assert_eq!([answer.widest, answer.listed], needed);
+        let both = on_strand(BOTH, forward);
+        let turned = reverse_complement(&second);
+        let answer = listed_as_in_ample_rooms(both, [&first, &turned]);
+        assert!(answer.widest >= needed[0] && answer.listed >= needed[1]);
+    }
+}
+
+fn listed_as_in_ample_rooms(settings: Settings, sequences: [&[u8]; 2]) -> Answer {
+    with_library(|library| {
+        let (answer, _, list) = compared(library, settings, sequences, [80_000, 60_000]);
+        let listing = library.list(settings, sequences[0], sequences[1]).unwrap();
+        let entries: Vec<u32> = listing.entries.iter().flat_map(numbers).collect();
+        assert_eq!(listing.answer, answer);
+        assert_eq!(entries, list[..6 * answer.listed as usize]);
+        answer
+    })
+}
+
+/// An entry as it stands in the list room.
+fn numbers(entry: &Entry) -> [u32; 6] {
+    let strand = match entry.strand {
+        Strand::Forward => FORWARD,
+        Strand::Reverse => REVERSE,
+    };
+    [
+        entry.first_start,
+        entry.first_end,
+        entry.second_start,
+        entry.second_end,
+        entry.weight,
+        strand,
+    ]
 }
