@@ -1,10 +1,10 @@
 -- The whole sweep: what it asks, and what it leaves for every test of matches that the rows' columns describe. Assumes nothing.
 use mathlib.Core.Path.{_≡_}
-use mathlib.Core.Bool.{Bool, cond}
+use mathlib.Core.Bool.{Bool, cond, not, _&&_}
 use mathlib.Core.List.{List, []}
 use Prim.Native.Nat.{ℕ, _-_, _*_, _≤_}
-use lib.Dec.{eqb}
-use lib.ListN.{length, take}
+use lib.Dec.{eqb, ltb}
+use lib.ListN.{length, getD, take}
 use Rattle.rules.specs.declared.Settings.{Settings}
 use Rattle.rules.specs.declared.Cell.{Cell}
 use Rattle.rules.specs.Lists.{keep, laid, thenZeros}
@@ -22,6 +22,10 @@ use Rattle.sweep.specs.declared.Swept.{Swept}
 -- the number from which records are of the latest row, once a row has brought their number from head to h
 unfoldable pub laterFrom : ℕ → ℕ → ℕ → ℕ
 laterFrom h head from = cond (eqb h head) from head
+
+-- when row p + 1 enters, row p - b leaves, where there is one with a match
+unfoldable pub leavesAt : List ℕ → ℕ → ℕ → Bool
+leavesAt firsts b p = ltb b p && not (eqb (getD firsts (p - b - 1) 0) 0)
 
 -- what the sweep asks to be safe
 pub record SweepSafe (firsts nexts room : List ℕ) (ring : Ring) (c : Settings) : Type 0 where

@@ -2,7 +2,9 @@
 use predecessors::Ring;
 use rules::Settings;
 ghost use mathlib.Core.Path.{_≡_};
-ghost use Rattle.sweep.specs.Sweeping.{laterFrom, SweepSafe, SweepDone, ListsAll, HoldsRun};
+ghost use Prim.Native.Nat.{_<_};
+ghost use lib.ListN.{length};
+ghost use Rattle.sweep.specs.Sweeping.{laterFrom, leavesAt, SweepSafe, SweepDone, ListsAll, HoldsRun};
 ghost use Rattle.sweep.specs.Latest.{NoneLatest};
 
 // Where a sweep stands after its last row.
@@ -20,6 +22,17 @@ fn later_from(h: usize, head: usize, from: usize) -> usize
     ensures { λ r. ⌜ r ≡ laterFrom h head from ⌝ }
 {
     if h == head { from } else { head }
+}
+
+// Whether rows leave when row p + 1 enters: row p - b does, where there is one, and nothing is to be released where it has no match.
+fn leaves(firsts: &[u32], b: usize, p: usize) -> bool
+    requires { ⌜ p < length (now firsts) ⌝ }
+    ensures { λ r. ⌜ r ≡ leavesAt (now (firsts .entry)) b p ⌝ }
+{
+    if p <= b {
+        return false;
+    }
+    firsts[p - b - 1] != 0
 }
 
 // All rows: row k + 1 begins in column firsts[k], and after column j comes nexts[j - 1]. A step a row and a match; no room but the ring's is kept from
@@ -45,10 +58,13 @@ fn sweep(
     let mut k: usize = 0;
     while k < firsts.len() {
         let start = casts::wide(firsts[k]);
+        let leave = leaves(firsts, b, k);
         k += 1;
-        let released = listing::release(room, latest, ring, tail, head, c, k, list, listed);
-        tail = released.tail;
-        listed = released.listed;
+        if leave {
+            let released = listing::release(room, latest, ring, tail, head, c, k, list, listed);
+            tail = released.tail;
+            listed = released.listed;
+        }
         let h = rows::store_row(nexts, start, room, latest, ring, tail, head, from, b, k);
         from = later_from(h, head, from);
         head = h;

@@ -1,8 +1,10 @@
 -- `sweep::sweep` meets its contract: after k rows the state is that of k rows, whatever matches the slices describe. Assumes nothing.
+use mathlib.Core.Path.{sym, _∙_}
+use mathlib.Core.Logic.{⊎-elim}
 use Prim.Native.Nat.{_-_}
 use native.Mathlib.Omega.{arith}
 use lib.ListN.{length}
-use Rattle.sweep.proofs.Sweeping.{SweepInv, sweep-start, sweep-end, sweep-next, release-safe, row-safe}
+use Rattle.sweep.proofs.Sweeping.{SweepInv, Left, sweep-start, sweep-end, left-released, left-none, sweep-next, release-safe, row-safe}
 use borrow.Author.Needs.{needs}
 use Rattle.sweep.proofs.sweep.Statement.{statement}
 use Rattle.sweep.proofs.sweep.Tie as tie
@@ -13,12 +15,12 @@ Inv-loop firsts nexts room₀ latest₀ ring c list₀ b tail₀ head₀ from₀
 abbrev μ-loop : tie.MeasureT-loop
 μ-loop firsts nexts room₀ latest₀ ring c list₀ b tail₀ head₀ from₀ listed₀ k₀ room latest list tail head from listed k = length firsts - k
 
--- the places that are spoken of: the start, and in the loop where the row's first column is read, from where the rows before are released
+-- the places that are spoken of: the start, and in the loop its test and where it is told whether a row leaves
 abbrev start : tie.After-wide Inv-loop μ-loop → tie.Start Inv-loop μ-loop
 start w = w .before .before .before .before .before .before
 
-abbrev reading : tie.After-release Inv-loop μ-loop → tie.After-wide2 Inv-loop μ-loop
-reading d = d .before .before .before .before
+abbrev testing : tie.After-leaves Inv-loop μ-loop → tie.In-loop Inv-loop μ-loop
+testing d = d .before .before .before
 
 wide-requires : tie.Need-wide-requires Inv-loop μ-loop
 wide-requires c κs = search needs
@@ -35,25 +37,45 @@ shared-slice-read-wide c = omega arith
 wide-requires-2 : tie.Need-wide-requires-2 Inv-loop μ-loop
 wide-requires-2 c κs = search needs
 
+leaves-requires : tie.Need-leaves-requires Inv-loop μ-loop
+leaves-requires c κs = c .before .before .loop-test .taken
+
 add-k : tie.Need-add-k Inv-loop μ-loop
 add-k c =
-    let n = c .before .before in
+    let n = testing c in
     omega (arith, n .loop-test .taken, start (n .before .before) .pre .0 .walks .few-rows)
 
 release-requires : tie.Need-release-requires Inv-loop μ-loop
 release-requires c κs =
-    let n = c .before .before .before .before .before in
+    let n = testing (c .before .before .before .before) in
     let l = n .before in
     let s = start (l .before) in
     release-safe (s .pre .0) (s .pre .1) (l .loop .inv) (n .loop-test .taken)
 
+-- what leaves has left, by either arm
+left : (c : tie.Joined1 Inv-loop μ-loop)
+    → let n = testing (c .before) in
+    let l = n .before in
+    let a = start (l .before) .args in
+    let v = l .loop in
+    Left (a .firsts .now) (a .nexts .now) (a .ring) (a .c) (v .room) (v .latest) (v .list) (v .tail) (v .head) (v .from) (v .listed) (v .k) (c .if1 .list) (c .if1 .tail) (c .if1 .listed)
+left c =
+    let n = testing (c .before) in
+    let l = n .before in
+    let w = l .before in
+    let s = start w in
+    ⊎-elim
+    (λ t. rw (t .7, t .8, t .9) (left-released (s .pre .0) (s .pre .1) (l .loop .inv) (n .loop-test .taken) (t .4 .ensures)))
+    (λ f. rw (f .1, f .2, f .3) (left-none (s .pre .0) (s .pre .1) (l .loop .inv) (n .loop-test .taken) (w .wide .ensures .0) (sym (c .before .leaves .ensures) ∙ f .0 .left)))
+    (c .if1 .came)
+
 store-row-requires : tie.Need-store-row-requires Inv-loop μ-loop
 store-row-requires c κs =
-    let w = reading (c .before .before .before .before) in
-    let n = w .before .before in
+    let e = c .before .before .before in
+    let n = testing e in
     let l = n .before in
     let s = start (l .before) in
-    row-safe (s .pre .0) (s .pre .1) (l .loop .inv) (n .loop-test .taken) (w .wide2 .ensures .0)
+    row-safe (s .pre .0) (s .pre .1) (l .loop .inv) (n .loop-test .taken) (e .before .wide2 .ensures .0)
 
 later-from-requires : tie.Need-later-from-requires Inv-loop μ-loop
 later-from-requires c κs = search needs
@@ -61,19 +83,18 @@ later-from-requires c κs = search needs
 loop-less : tie.Need-loop-less Inv-loop μ-loop
 loop-less c =
     let e = c .before .before .before .before .before in
-    let d = e .before .before .before .before .before in
-    omega (arith, reading d .before .before .loop-test .taken)
+    omega (arith, testing (e .before .before .before .before) .loop-test .taken)
 
 loop-again : tie.Need-loop-again Inv-loop μ-loop
 loop-again c =
     let e = c .before .before .before .before .before in
-    let d = e .before .before .before .before .before in
-    let r = reading d in
-    let n = r .before .before in
+    let d = e .before .before .before in
+    let r = d .before .before in
+    let n = testing (d .before) in
     let l = n .before in
     let w = l .before in
     let s = start w in
-    sweep-next (s .pre .0) (s .pre .1) (l .loop .inv) (n .loop-test .taken) (r .wide2 .ensures .0) (d .release .ensures) (e .store-row .kept .1 .1 .0) (e .store-row .kept .1 .1 .1 .0) (w .wide .ensures .0) (e .store-row .ensures) (c .later-from .ensures)
+    sweep-next (s .pre .0) (s .pre .1) (l .loop .inv) (n .loop-test .taken) (r .wide2 .ensures .0) (left d) (e .store-row .kept .1 .1 .0) (e .store-row .kept .1 .1 .1 .0) (w .wide .ensures .0) (e .store-row .ensures) (c .later-from .ensures)
 
 same-length : tie.Need-same-length Inv-loop μ-loop
 same-length c = c .before .loop .inv .long
@@ -101,6 +122,7 @@ sweep-spec =
     mul-wide
     shared-slice-read-wide
     wide-requires-2
+    leaves-requires
     add-k
     release-requires
     store-row-requires
