@@ -1,6 +1,4 @@
 -- `tally::slide` meets its contract: a window close by is told from the one that is held, any other is summed. Assumes nothing.
-use mathlib.Core.Path.{_≡_}
-use Prim.Native.Nat.{_≤_}
 use Rattle.tally.specs.Columns.{windowSum}
 use Rattle.tally.proofs.Windows.{window-slid}
 use borrow.Author.Needs.{needs}
