@@ -28,8 +28,8 @@ pub fn places(length: usize, k: usize) -> usize
 // The letters A, C, G and T, the first lowest.
 const ACGT: u32 = 0x5447_4341;
 
-// The two bits of a base, 4 for a byte that is none. Bits 1 and 2 of the four letters tell them apart, and each of the two as it differs from the one
-// above it is their order; so no jump depends on which base it is.
+// The two bits of a base, 4 for a byte that is none. Bits 1 and 2 of the four letters tell them apart, and each compared with the bit above it they
+// count A, C, G and T from 0 to 3; so no jump depends on which base it is.
 fn base(letter: u8) -> u64
     ensures { λ r. ⌜ r ≡ baseOf letter ⌝ }
 {
