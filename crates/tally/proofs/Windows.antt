@@ -1,6 +1,7 @@
 -- The sum over a window of columns: how it moves from one column to another, and with one count more or less. Sums are told modulo 2 ^ 32, so that
 -- nothing need be known of the counts. Assumes nothing.
 use mathlib.Core.Path.{_≡_, refl, sym, ap, _∙_}
+use mathlib.Core.Logic.{_≢_}
 use mathlib.Core.Bool.{true, false, cond}
 use mathlib.Core.List.{List}
 use Prim.Native.Nat.{ℕ, zero, suc, _+_, _-_, _%_, _^_, _≤_, _<_}
@@ -22,15 +23,11 @@ sum-join counts lo n (suc m) =
 
 -- one count changed
 module _ (counts : List ℕ) (j v lo : ℕ) where
-  sum-after : (n : ℕ) → lo + n ≤ j → sumFrom (set counts j v) lo n ≡ sumFrom counts lo n
+  sum-outside : (n : ℕ) → ((q : ℕ) → q < n → lo + q ≢ j) → sumFrom (set counts j v) lo n ≡ sumFrom counts lo n
   unfolding sumFrom
-  sum-after zero h = refl
-  sum-after (suc n) h = omega (arith, sum-after n (omega arith), getD-set-other counts j (lo + n) v 0 (λ z. omega arith))
-
-  sum-before : (n : ℕ) → j < lo → sumFrom (set counts j v) lo n ≡ sumFrom counts lo n
-  unfolding sumFrom
-  sum-before zero h = refl
-  sum-before (suc n) h = omega (arith, sum-before n h, getD-set-other counts j (lo + n) v 0 (λ z. omega arith))
+  sum-outside zero h = refl
+  sum-outside (suc n) h =
+      omega (arith, sum-outside n (λ q l. h q (omega arith)), getD-set-other counts j (lo + n) v 0 (λ z. h n (omega arith) (omega arith)))
 
   sum-inside : (n : ℕ) → lo ≤ j → j < lo + n → j < length counts → sumFrom (set counts j v) lo n + getD counts j 0 ≡ sumFrom counts lo n + v
   unfolding sumFrom
@@ -40,7 +37,7 @@ module _ (counts : List ℕ) (j v lo : ℕ) where
       go : Three j (lo + n) → (j < lo + n → sumFrom (set counts j v) lo n + getD counts j 0 ≡ sumFrom counts lo n + v)
           → sumFrom (set counts j v) lo n + getD (set counts j v) (lo + n) 0 + getD counts j 0 ≡ sumFrom counts lo n + getD counts (lo + n) 0 + v
       go (below b) rest = omega (arith, rest b, getD-set-other counts j (lo + n) v 0 (λ z. omega arith))
-      go (equal e) rest = rw (← e) (omega (arith, sum-after n (omega arith), getD-set-same counts j v 0 l))
+      go (equal e) rest = rw (← e) (omega (arith, sum-outside n (λ q k z. omega arith), getD-set-same counts j v 0 l))
       go (above a) rest = absurd (omega arith)
 
 -- ---- modulo 2 ^ 32
@@ -130,11 +127,10 @@ module _ (counts : List ℕ) (b : ℕ) where
   window-less {at} {held} v q l less el {r} er small =
       record { places = length-set counts q less ∙ v .places; sum = go (three q (at - b)) (three q at) }
     where
-      outside : sumFrom (set counts q less) (at - b) (at + 1 - (at - b)) ≡ sumFrom counts (at - b) (at + 1 - (at - b))
-          → inWindow b at q ≡ false → r ≡ windowSum (set counts q less) b at % 2 ^ 32
-      outside same out =
+      outside : ((n : ℕ) → n < at + 1 - (at - b) → at - b + n ≢ q) → inWindow b at q ≡ false → r ≡ windowSum (set counts q less) b at % 2 ^ 32
+      outside other out =
           let e : (r + 0) % 2 ^ 32 ≡ held = rw out at er in
-          rw same (omega (arith, v .sum, e, small))
+          rw (sum-outside counts q less (at - b) (at + 1 - (at - b)) other) (omega (arith, v .sum, e, small))
 
       inside : at - b ≤ q → q ≤ at → r ≡ windowSum (set counts q less) b at % 2 ^ 32
       inside h g =
@@ -142,10 +138,10 @@ module _ (counts : List ℕ) (b : ℕ) where
           mod-less (windowSum counts b at) (windowSum (set counts q less) b at) less r sums (rw (in-window b at q h g) at er ∙ v .sum) small
 
       go : Three q (at - b) → Three q at → r ≡ windowSum (set counts q less) b at % 2 ^ 32
-      go (below h) _ = outside (sum-before counts q less (at - b) (at + 1 - (at - b)) h) (before-window b at q h)
+      go (below h) _ = outside (λ n l z. omega arith) (before-window b at q h)
       go (equal h) (below g) = inside (omega arith) (omega arith)
       go (equal h) (equal g) = inside (omega arith) (omega arith)
       go (equal h) (above g) = absurd (omega arith)
       go (above h) (below g) = inside (omega arith) (omega arith)
       go (above h) (equal g) = inside (omega arith) (omega arith)
-      go (above h) (above g) = outside (sum-after counts q less (at - b) (at + 1 - (at - b)) (omega arith)) (after-window b at q g)
+      go (above h) (above g) = outside (λ n l z. omega arith) (after-window b at q g)

@@ -20,6 +20,13 @@ Inv-loop second bucket₀ link₀ own₀ j₀ bucket link own j =
 abbrev μ-loop : tie.MeasureT-loop
 μ-loop second bucket₀ link₀ own₀ j₀ bucket link own j = length second - j
 
+-- the places that are spoken of: the loop from where a column's code was searched for, and that place from where the column was put
+abbrev looking : tie.After-find Inv-loop μ-loop → tie.In-loop Inv-loop μ-loop
+looking f = f .before .before .before .before .before
+
+abbrev finding : tie.After-put Inv-loop μ-loop → tie.After-find Inv-loop μ-loop
+finding p = p .before .before .before .before .before
+
 loop-holds : tie.Need-loop-holds Inv-loop μ-loop
 loop-holds c = (refl, (refl, (c .before .before .before .before .pre .1 .1, owned-start)))
 
@@ -76,8 +83,8 @@ loop-less c = search needs
 loop-again : tie.Need-loop-again Inv-loop μ-loop
 loop-again c =
     let placed = c .before .before .before .before in
-    let found = placed .before .before .before .before .before in
-    let l = found .before .before .before .before .before in
+    let found = finding placed in
+    let l = looking found in
     let new = is-new (found .before .before .before .if1 .taken) (found .find .ensures) (placed .before .before .before .if3 .taken) in
     (search needs, (search needs, (placed .put .ensures, owned-next (omega arith) (owner-new (l .loop-test .taken) new) (l .before .loop .inv .1 .1 .1))))
 
@@ -96,7 +103,7 @@ loop-less-2 c = search needs
 loop-again-2 : tie.Need-loop-again-2 Inv-loop μ-loop
 loop-again-2 c =
     let found = c .before .before in
-    let l = found .before .before .before .before .before in
+    let l = looking found in
     let v = l .before .loop .inv in
     let old = is-old (found .find .ensures) (c .before .if2 .left) (c .if3 .left) in
     let owner = owner-old (l .loop-test .taken) (found .before .before .before .if1 .taken) (found .find .ensures) (c .before .if2 .left) (c .if3 .left) in

@@ -9,6 +9,13 @@ use Rattle.owners.proofs.Tables.{table-start}
 use Rattle.owners.proofs.own_all.Statement.{statement}
 use Rattle.owners.proofs.own_all.Tie as tie
 
+-- the places that are spoken of: the start, and the table from where it is told whether it could be built
+abbrev start : tie.After-build → tie.Start
+start d = d .before .before .before .before .before .before .before .before
+
+abbrev built : tie.After-slice-known3 → tie.After-build
+built t = t .before .before .before .before
+
 slice-aggregate-build : tie.Need-slice-aggregate-build
 slice-aggregate-build c = search needs
 
@@ -28,9 +35,10 @@ slice-aggregate-owners-by-table-2 c = search needs
 
 owners-by-table-requires : tie.Need-owners-by-table-requires
 owners-by-table-requires c κs =
-    let built = c .before .before .before .before .before .before .before .before in
-    let s = built .before .before .before .before .before .before .before .before .pre in
-    (s .0, (s .1 .1, built .build .ensures .0 (c .before .before .before .if1 .taken)))
+    let t = c .before .before .before in
+    let d = built (t .before) in
+    let s = start d .pre in
+    (s .0, (s .1 .1, d .build .ensures .0 (t .if1 .taken)))
 
 same-length : tie.Need-same-length
 same-length c = search needs
@@ -40,8 +48,9 @@ same-length-2 c = search needs
 
 returns : tie.Need-returns
 returns c =
-    let built = c .before .before .before .before .before .before .before .before .before .before .before in
-    (built .build .ensures .1 .0 (c .before .before .before .before .before .before .if1 .taken), c .before .before .owners-by-table .ensures)
+    let looked = c .before .before in
+    let t = looked .before .before .before .before in
+    (built (t .before) .build .ensures .1 .0 (t .if1 .taken), looked .owners-by-table .ensures)
 
 own-by-order-requires : tie.Need-own-by-order-requires
 own-by-order-requires c κs = search needs
@@ -55,8 +64,8 @@ same-length-4 c = search needs
 returns-2 : tie.Need-returns-2
 returns-2 c =
     let sorted = c .before .before .before .before in
-    let built = sorted .before .before .before .before .before .before .before .before in
-    (owned-over (built .build .ensures .1 .1) (sorted .own-by-order .ensures .0), sorted .own-by-order .ensures .1)
+    let e = sorted .before .before .before in
+    (owned-over (built (e .before) .build .ensures .1 .1) (sorted .own-by-order .ensures .0), sorted .own-by-order .ensures .1)
 
 pub own-all-spec : {M : Type 1} → statement M
 own-all-spec =

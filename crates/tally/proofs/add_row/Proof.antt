@@ -17,6 +17,10 @@ Inv-loop nexts start b counts₀ total₀ at₀ held₀ j₀ counts total at hel
 abbrev μ-loop : tie.MeasureT-loop
 μ-loop nexts start b counts₀ total₀ at₀ held₀ j₀ counts total at held j = toCome (length nexts) j
 
+-- the place that is spoken of: the loop, from where the window is added to the total
+abbrev walking : tie.After-wrapping-add-u64 Inv-loop μ-loop → tie.In-loop Inv-loop μ-loop
+walking t = t .before .before .before .before
+
 loop-holds : tie.Need-loop-holds Inv-loop μ-loop
 loop-holds c =
     let s = c .before in
@@ -39,7 +43,7 @@ mul-wrapping-add-u32 : tie.Need-mul-wrapping-add-u32 Inv-loop μ-loop
 mul-wrapping-add-u32 c = omega arith
 
 element-copy-out-wrapping-add-u32 : tie.Need-element-copy-out-wrapping-add-u32 Inv-loop μ-loop
-element-copy-out-wrapping-add-u32 c = omega (arith, inside (c .before .before .before .before))
+element-copy-out-wrapping-add-u32 c = omega (arith, inside (walking c))
 
 wrapping-add-u32-requires : tie.Need-wrapping-add-u32-requires Inv-loop μ-loop
 wrapping-add-u32-requires c κs = search needs
@@ -48,7 +52,7 @@ mul-counts : tie.Need-mul-counts Inv-loop μ-loop
 mul-counts c = omega arith
 
 element-write-counts : tie.Need-element-write-counts Inv-loop μ-loop
-element-write-counts c = omega (arith, inside (c .before .before .before .before .before .before))
+element-write-counts c = omega (arith, inside (walking (c .before .before)))
 
 wrapping-add-u32-requires-2 : tie.Need-wrapping-add-u32-requires-2 Inv-loop μ-loop
 wrapping-add-u32-requires-2 c κs = search needs
@@ -60,14 +64,17 @@ mul-wide : tie.Need-mul-wide Inv-loop μ-loop
 mul-wide c = omega arith
 
 shared-slice-read-wide : tie.Need-shared-slice-read-wide Inv-loop μ-loop
-shared-slice-read-wide c = omega (arith, c .before .before .before .before .before .before .before .before .before .loop .inv .0 .inside)
+shared-slice-read-wide c =
+    let more = c .before .before in
+    omega (arith, walking (more .before .before) .before .loop .inv .0 .inside)
 
 wide-requires : tie.Need-wide-requires Inv-loop μ-loop
 wide-requires c κs = search needs
 
 loop-less : tie.Need-loop-less Inv-loop μ-loop
 loop-less c =
-    let l = c .before .before .before .before .before .before .before .before .before .before in
+    let more = c .before .before .before in
+    let l = walking (more .before .before) .before in
     let s = l .before .before in
     rw (c .wide .ensures .0) (come-less (s .args .nexts .now) (s .pre .0) (l .loop .j) (omega arith) (l .loop .inv .0 .inside))
 
@@ -78,15 +85,13 @@ loop-again c =
     let total = more .before .before in
     let long = total .before in
     let slid = long .before in
-    let n = slid .before .before in
+    let n = walking total in
     let l = n .before in
     let s = l .before .before in
-    let a = s .args in
     let v = l .loop in
-    rw (more .wrapping-add-u32 .ensures, c .wide .ensures .0) (
-      add-next (v .inv .0) (s .pre .0) (omega arith) (long .long .ensures .0 ∙ slid .slide .ensures) (total .wrapping-add-u64 .ensures),
-      window-more (v .counts) (a .b) (v .inv .1 .places) (v .j) (inside n) (slid .slide .ensures) (held .wrapping-add-u322 .ensures),
-    )
+    rw (more .wrapping-add-u32 .ensures, c .wide .ensures .0)
+    (add-next (v .inv .0) (s .pre .0) (omega arith) (long .long .ensures .0 ∙ slid .slide .ensures) (total .wrapping-add-u64 .ensures),
+    window-more (v .counts) (s .args .b) (v .inv .1 .places) (v .j) (inside n) (slid .slide .ensures) (held .wrapping-add-u322 .ensures))
 
 returns : tie.Need-returns Inv-loop μ-loop
 returns c =

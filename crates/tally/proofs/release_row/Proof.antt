@@ -15,6 +15,10 @@ Inv-loop nexts start b counts₀ at held left₀ j₀ counts left j = ReleaseLoo
 abbrev μ-loop : tie.MeasureT-loop
 μ-loop nexts start b counts₀ at held left₀ j₀ counts left j = toCome (length nexts) j
 
+-- the place that is spoken of: the loop, from where the column counts one less
+abbrev walking : tie.After-wrapping-sub-u32 Inv-loop μ-loop → tie.At-loop Inv-loop μ-loop
+walking d = d .before .before .before
+
 loop-holds : tie.Need-loop-holds Inv-loop μ-loop
 loop-holds c =
     let s = c .before in
@@ -36,7 +40,7 @@ mul-counts c = omega arith
 
 element-write-counts : tie.Need-element-write-counts Inv-loop μ-loop
 element-write-counts c =
-    let l = c .before .before .before in
+    let l = walking c in
     omega (arith, l .loop .inv .0 .inside, l .before .before .pre .0 .few-columns)
 
 without-requires : tie.Need-without-requires Inv-loop μ-loop
@@ -49,14 +53,14 @@ mul-wide : tie.Need-mul-wide Inv-loop μ-loop
 mul-wide c = omega arith
 
 shared-slice-read-wide : tie.Need-shared-slice-read-wide Inv-loop μ-loop
-shared-slice-read-wide c = omega (arith, c .before .before .before .before .before .loop .inv .0 .inside)
+shared-slice-read-wide c = omega (arith, walking (c .before .before) .loop .inv .0 .inside)
 
 wide-requires : tie.Need-wide-requires Inv-loop μ-loop
 wide-requires c κs = search needs
 
 loop-less : tie.Need-loop-less Inv-loop μ-loop
 loop-less c =
-    let l = c .before .before .before .before .before .before in
+    let l = walking (c .before .before .before) in
     let s = l .before .before in
     rw (c .wide .ensures .0) (come-less (s .args .nexts .now) (s .pre .0) (l .loop .j) (omega arith) (l .loop .inv .0 .inside))
 
@@ -64,7 +68,7 @@ loop-again : tie.Need-loop-again Inv-loop μ-loop
 loop-again c =
     let out = c .before .before in
     let less = out .before in
-    let l = less .before .before .before in
+    let l = walking less in
     let s = l .before .before in
     let a = s .args in
     let v = l .loop in (

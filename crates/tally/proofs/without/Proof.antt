@@ -8,7 +8,7 @@ use Rattle.tally.proofs.without.Tie as tie
 returns : tie.Need-returns
 returns c =
     let a = c .before .args in
-    rw (after-window (a .b) (a .at) (a .q) (c .if1 .taken)) (omega arith)
+    rw (after-window (a .b) (a .at) (a .q) (omega (arith, c .if1 .taken))) (omega arith)
 
 minus-requires : tie.Need-minus-requires
 minus-requires c κs = search needs
@@ -17,7 +17,7 @@ returns-2 : tie.Need-returns-2
 returns-2 c =
     let m = c .before in
     let a = m .before .before .args in
-    rw (before-window (a .b) (a .at) (a .q) (rw (m .minus .ensures) at (c .if2 .taken))) (omega arith)
+    rw (before-window (a .b) (a .at) (a .q) (omega (arith, m .minus .ensures, c .if2 .taken))) (omega arith)
 
 wrapping-sub-u32-requires : tie.Need-wrapping-sub-u32-requires
 wrapping-sub-u32-requires c κs = search needs
@@ -26,7 +26,7 @@ returns-3 : tie.Need-returns-3
 returns-3 c =
     let m = c .before .before in
     let a = m .before .before .args in
-    rw (in-window (a .b) (a .at) (a .q) (rw (m .minus .ensures) at (c .before .if2 .left)) (m .before .if1 .left)) (c .wrapping-sub-u32 .ensures)
+    rw (in-window (a .b) (a .at) (a .q) (omega (arith, m .minus .ensures, c .before .if2 .left)) (omega (arith, m .before .if1 .left))) (c .wrapping-sub-u32 .ensures)
 
 pub without-spec : {M : Type 1} → statement M
 without-spec =
