@@ -21,6 +21,10 @@ sum-join counts lo n (suc m) =
     let f : lo + (n + m) ≡ lo + n + m = omega arith in
     rw (e, f) (omega (arith, sum-join counts lo n m))
 
+-- which columns are summed, in numbers
+pub same-sum : (counts : List ℕ) {r : ℕ} (lo n lo′ n′ : ℕ) → r ≡ sumFrom counts lo n % 2 ^ 32 → lo ≡ lo′ → n ≡ n′ → r ≡ sumFrom counts lo′ n′ % 2 ^ 32
+same-sum counts lo n lo′ n′ e f g = e ∙ λ i. sumFrom counts (f i) (g i) % 2 ^ 32
+
 -- one count changed
 module _ (counts : List ℕ) (j v lo : ℕ) where
   sum-outside : (n : ℕ) → ((q : ℕ) → q < n → lo + q ≢ j) → sumFrom (set counts j v) lo n ≡ sumFrom counts lo n

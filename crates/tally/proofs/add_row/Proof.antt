@@ -89,9 +89,10 @@ loop-again c =
     let l = n .before in
     let s = l .before .before in
     let v = l .loop in
-    rw (more .wrapping-add-u32 .ensures, c .wide .ensures .0)
-    (add-next (v .inv .0) (s .pre .0) (omega arith) (long .long .ensures .0 ∙ slid .slide .ensures) (total .wrapping-add-u64 .ensures),
-    window-more (v .counts) (s .args .b) (v .inv .1 .places) (v .j) (inside n) (slid .slide .ensures) (held .wrapping-add-u322 .ensures))
+    rw (more .wrapping-add-u32 .ensures, c .wide .ensures .0) (
+      add-next (v .inv .0) (s .pre .0) (omega arith) (long .long .ensures .0 ∙ slid .slide .ensures) (total .wrapping-add-u64 .ensures),
+      window-more (v .counts) (s .args .b) (v .inv .1 .places) (v .j) (inside n) (slid .slide .ensures) (held .wrapping-add-u322 .ensures),
+    )
 
 returns : tie.Need-returns Inv-loop μ-loop
 returns c =

@@ -1,6 +1,9 @@
 -- `tally::slide` meets its contract: a window close by is told from the one that is held, any other is summed. Assumes nothing.
-use Rattle.tally.specs.Columns.{windowSum}
-use Rattle.tally.proofs.Windows.{window-slid}
+use mathlib.Core.Path.{_≡_}
+use Prim.Native.Nat.{_+_, _-_, _%_, _^_}
+use native.Mathlib.Omega.{arith}
+use Rattle.tally.specs.Columns.{sumFrom, windowSum}
+use Rattle.tally.proofs.Windows.{same-sum, window-slid}
 use borrow.Author.Needs.{needs}
 use Rattle.tally.proofs.slide.Statement.{statement}
 use Rattle.tally.proofs.slide.Tie as tie
@@ -41,8 +44,8 @@ returns c =
     let start = enters .before .before .before in
     let a = start .args in
     window-slid (a .counts .now) (a .b) (a .at) (a .j) (enters .before .before .if1 .taken) (start .pre .1 .sum)
-    (rw (enters .sum .ensures) at (entered .wrapping-add-u32 .ensures))
-    (rw (leaves .sum2 .ensures, from .minus .ensures, leaves .before .minus2 .ensures) at (c .wrapping-sub-u32 .ensures))
+    (rw (same-sum (a .counts .now) _ _ (a .at + 1) (a .j + 1 - (a .at + 1)) (enters .sum .ensures) (omega arith) (omega arith)) at (entered .wrapping-add-u32 .ensures))
+    (rw (same-sum (a .counts .now) _ _ (a .at - a .b) (a .j - a .b - (a .at - a .b)) (leaves .sum2 .ensures) (omega (arith, from .minus .ensures)) (omega (arith, from .minus .ensures, leaves .before .minus2 .ensures))) at (c .wrapping-sub-u32 .ensures))
     (search needs)
 
 minus-requires-3 : tie.Need-minus-requires-3
@@ -54,9 +57,17 @@ add-sum-3 c = search needs
 sum-requires-3 : tie.Need-sum-requires-3
 sum-requires-3 c κs = search needs
 
+-- which columns are summed anew
+summed : (c : tie.After-sum3) → let a = c .before .before .before .args in
+    c .sum3 .result ≡ sumFrom (a .counts .now) (a .j - a .b) (a .j + 1 - (a .j - a .b)) % 2 ^ 32
+summed c =
+    let from = c .before in
+    let a = from .before .before .args in
+    same-sum (a .counts .now) _ _ (a .j - a .b) (a .j + 1 - (a .j - a .b)) (c .sum3 .ensures) (omega (arith, from .minus3 .ensures)) (omega (arith, from .minus3 .ensures))
+
 returns-2 : tie.Need-returns-2
 unfolding windowSum
-returns-2 c = rw (c .before .minus3 .ensures) at (c .sum3 .ensures)
+returns-2 c = summed c
 
 pub slide-spec : {M : Type 1} → statement M
 slide-spec =
