@@ -10,16 +10,17 @@ use lib.ListN.{length, getD, take, drop, length-take, length-append}
 use lib.Seq.{take-at}
 use Rattle.lines.specs.declared.Frame.{Frame}
 use Rattle.lines.specs.Digits.{isLine, bytesIn}
-use Rattle.lines.specs.Writing.{byteSum}
+use Rattle.lines.specs.Writing.{byteSum, inFront}
 use Rattle.lines.specs.Reading.{refusedFrame, frameFrom, frameIn}
-use Rattle.frames.specs.Kinds.{refusedFits, refusedLine}
+use Rattle.kinds.specs.Kinds.{refusedFits, refusedLine}
 use Rattle.payloads.specs.Pieces.{codesIn}
+use Rattle.pieces.specs.Letters.{isPiece, pieceNumber}
 use Rattle.input.specs.declared.InputRead.{InputRead}
 use Rattle.input.specs.Lines.{addTo, linesOf}
-use Rattle.input.specs.Grammar.{Progress, Outcome, nothingYet, knownKind, inTurn, frameNumber, payloadIn, isPiece, jobSize, sizeNumber, pieceNumber, payloadNumber, lineNumber, after, refusedInput, stopped, finished, readLines, inputOf}
-use Rattle.input.specs.States.{inFront}
+use Rattle.turns.specs.Turns.{Progress, knownKind, inTurn, frameNumber, payloadIn, jobSize, sizeNumber, payloadNumber, lineNumber, after}
+use Rattle.input.specs.Grammar.{Outcome, nothingYet, refusedInput, stopped, finished, readLines, inputOf}
 use Rattle.input.proofs.Cutting.{cut}
-use Rattle.replies.specs.Output.{jobOutput, inFront as outputFront}
+use Rattle.replies.specs.Output.{jobOutput}
 use Rattle.exchange.specs.Whole.{inputRefusal, outputOf, outputLength, outputLeft}
 
 -- one of two small numbers
@@ -172,11 +173,11 @@ module _ (input output left : List ℕ) (n : ℕ) where
   unfolding outputLength outputLeft
   short-output h = (rw (lt-leb 9038 (length output) h), rw (lt-leb 9038 (length output) h))
 
-  pub long-output : (lines : List ℕ) → 9038 ≤ length output → lines ≡ outputOf input → n ≡ length lines → left ≡ outputFront lines output
+  pub long-output : (lines : List ℕ) → 9038 ≤ length output → lines ≡ outputOf input → n ≡ length lines → left ≡ inFront lines output
       → (n ≡ outputLength input output) × (left ≡ outputLeft input output)
   unfolding outputLength outputLeft
   long-output lines h e a b =
-      (rw (le-leb 9038 (length output) h) (a ∙ ap length e), rw (le-leb 9038 (length output) h) (b ∙ ap (λ (l : List ℕ). outputFront l output) e))
+      (rw (le-leb 9038 (length output) h) (a ∙ ap length e), rw (le-leb 9038 (length output) h) (b ∙ ap (λ (l : List ℕ). inFront l output) e))
 
   pub refused-lines : (r : InputRead) → r ≡ inputOf input .answer → (r .number ≡ 0 → ⊥) → refusedLine (inputRefusal r) ≡ outputOf input
   unfolding outputOf
@@ -191,8 +192,8 @@ module _ (input output left : List ℕ) (n : ℕ) where
       ∙ ap (λ (l : List ℕ). jobOutput (inputOf input .answer .settings) (inputOf input .first) l) g
       ∙ sym (taken (inputOf input .answer .number) _ _ (sym (ap (λ (x : InputRead). x .number) e) ∙ z))
 
-front-inside : (text output left : List ℕ) (n : ℕ) → n ≡ length text → left ≡ outputFront text output → n ≤ length left
-unfolding outputFront
+front-inside : (text output left : List ℕ) (n : ℕ) → n ≡ length text → left ≡ inFront text output → n ≤ length left
+unfolding inFront
 front-inside text output left n e f = omega (arith, ap length f, length-append text (drop (length text) output))
 
 -- what was written lies within the slice
@@ -200,6 +201,6 @@ pub written-inside : (input output left : List ℕ) (n : ℕ) → n ≡ outputLe
 unfolding outputLength outputLeft
 written-inside input output left n e f = go (leb 9038 (length output)) e f
   where
-    go : (t : Bool) → n ≡ cond t (length (outputOf input)) 0 → left ≡ cond t (outputFront (outputOf input) output) output → n ≤ length left
+    go : (t : Bool) → n ≡ cond t (length (outputOf input)) 0 → left ≡ cond t (inFront (outputOf input) output) output → n ≤ length left
     go true a b = front-inside (outputOf input) output left n a b
     go false a b = omega arith

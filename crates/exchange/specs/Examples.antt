@@ -1,13 +1,9 @@
 -- Document 01, "Examples in the registry": P1 through `chain`, and with k 0. Assumes nothing.
 use mathlib.Core.Path.{_≡_, refl}
-use mathlib.Core.List.{List, [], _∷_, _++_}
-use Prim.Native.Nat.{ℕ}
+use mathlib.Core.List.{_++_}
 use Rattle.rules.specs.Lists.{text}
+use Rattle.lines.specs.Writing.{fed}
 use Rattle.exchange.specs.Whole.{outputOf}
-
--- a quoted line with its line feed
-abbrev fed : List ℕ → List ℕ
-fed line = line ++ (10 ∷ [])
 
 pub P1-through-chain : outputOf (fed (text "010702000200080000EC") ++ fed (text "020312248045") ++ fed (text "030312448024") ++ fed (text "0400FC"))
     ≡ fed (text "100A00010005000100050003D7") ++ fed (text "11140000000100000003000000020000000000000002D3")

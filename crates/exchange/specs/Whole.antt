@@ -5,11 +5,12 @@ use mathlib.Core.List.{List}
 use Prim.Native.Nat.{ℕ}
 use lib.Dec.{eqb, leb}
 use lib.ListN.{length}
-use Rattle.frames.specs.declared.Refused.{Refused}
-use Rattle.frames.specs.Kinds.{refusedLine}
+use Rattle.kinds.specs.declared.Refused.{Refused}
+use Rattle.kinds.specs.Kinds.{refusedLine}
 use Rattle.input.specs.declared.InputRead.{InputRead}
 use Rattle.input.specs.Grammar.{inputOf}
-use Rattle.replies.specs.Output.{jobOutput, inFront}
+use Rattle.lines.specs.Writing.{inFront}
+use Rattle.replies.specs.Output.{jobOutput}
 
 unfoldable pub inputRefusal : InputRead → Refused
 inputRefusal x = record { number = x .number; sequence = 0; detail = x .line }

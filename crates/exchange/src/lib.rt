@@ -1,5 +1,5 @@
 // The whole of the program but its reading and writing: from an input's bytes to an output's.
-use frames::Refused;
+use kinds::Refused;
 ghost use mathlib.Core.Path.{_≡_};
 ghost use Rattle.exchange.specs.Whole.{outputLength, outputLeft};
 

@@ -15,12 +15,15 @@ use Rattle.lines.specs.Reading.{refusedFrame, frameIn}
 use Rattle.lines.proofs.Decoding.{line-long, line-parts, bytes-length}
 use Rattle.lines.proofs.Frames.{frame-read}
 use Rattle.payloads.specs.Pieces.{codesIn}
+use Rattle.pieces.specs.Letters.{isPiece, pieceNumber, lettersIn}
 use Rattle.input.specs.Lines.{linesOf, lineSize}
-use Rattle.input.specs.Grammar.{Progress, nothingYet, inTurn, frameNumber, payloadIn, sizeNumber, jobSize, isPiece, pieceNumber, payloadNumber, lineNumber, lettersIn, after, stopped, readLines, inputOf}
+use Rattle.turns.specs.Turns.{Progress, inTurn, frameNumber, payloadIn, sizeNumber, jobSize, payloadNumber, lineNumber, after}
+use Rattle.input.specs.Grammar.{nothingYet, stopped, readLines, inputOf}
 use Rattle.input.proofs.Lines.{size-some, first-line}
-use Rattle.input.proofs.Unpacking.{piece-parts, count-least}
-use Rattle.input.proofs.Numbering.{InItsTurn, in-turn-parts}
-use Rattle.input.proofs.Taking.{payload-size, frame-size, JobSized, seven, eight, job-sized, few-letters}
+use Rattle.pieces.proofs.Unpacking.{piece-parts, count-least}
+use Rattle.pieces.proofs.Pieces.{few-letters}
+use Rattle.turns.proofs.Numbering.{InItsTurn, in-turn-parts}
+use Rattle.turns.proofs.Taking.{payload-size, frame-size, JobSized, seven, eight, job-sized}
 
 -- ---- lines of an input that is cut
 
@@ -40,7 +43,8 @@ size-whole m [] h = ap lineSize (take-nil m)
 size-whole zero (b ∷ bs) h = absurd (omega (arith, size-some (b ∷ bs) (omega arith)))
 size-whole (suc m) (b ∷ bs) h = go (eqb b 10) refl (size-whole m bs)
   where
-    go : (t : Bool) → eqb b 10 ≡ t → (lineSize bs ≤ m → lineSize (take m bs) ≡ lineSize bs) → cond (eqb b 10) 1 (suc (lineSize (take m bs))) ≡ cond (eqb b 10) 1 (suc (lineSize bs))
+    go : (t : Bool) → eqb b 10 ≡ t → (lineSize bs ≤ m → lineSize (take m bs) ≡ lineSize bs)
+        → cond (eqb b 10) 1 (suc (lineSize (take m bs))) ≡ cond (eqb b 10) 1 (suc (lineSize bs))
     go true e ih = rw e
     go false e ih = rw e (ap suc (ih (le-of-suc-le-suc (rw e at h))))
 
@@ -200,7 +204,8 @@ long-line p l h = rw (line-long l (omega arith) h)
 
 -- two inputs with the same first line go on alike where what follows does
 alike : (p : Progress) (count : ℕ) (l : List ℕ) (xs ys : List (List ℕ))
-    → (lineNumber p l ≡ 0 → readLines (after p l) (suc count) xs ≡ readLines (after p l) (suc count) ys) → readLines p count (l ∷ xs) ≡ readLines p count (l ∷ ys)
+    → (lineNumber p l ≡ 0 → readLines (after p l) (suc count) xs ≡ readLines (after p l) (suc count) ys)
+    → readLines p count (l ∷ xs) ≡ readLines p count (l ∷ ys)
 unfolding readLines
 alike p count l xs ys h = go (eqb (lineNumber p l) 0) refl
   where
@@ -230,7 +235,8 @@ module _ (s : List ℕ) (m : ℕ) (p : Progress) (count : ℕ) (some : 0 < lengt
       let n : length l ≡ lineSize s = length-take-le (lineSize s) s (size-le s) in
       let c : linesOf (take m s) ≡ l ∷ linesOf (take (m - lineSize s) (drop (lineSize s) s)) =
       first-of ∙ rw (size-whole m s h, take-take (lineSize s) m s h, drop-take (lineSize s) m s h) in
-      let next : lineNumber p l ≡ 0 → readLines (after p l) (suc count) (linesOf (take (m - lineSize s) (drop (lineSize s) s))) ≡ readLines (after p l) (suc count) (linesOf (drop (lineSize s) s)) =
+      let next : lineNumber p l ≡ 0 → readLines (after p l) (suc count) (linesOf (take (m - lineSize s) (drop (lineSize s) s)))
+      ≡ readLines (after p l) (suc count) (linesOf (drop (lineSize s) s)) =
       λ z. let w = step p l sm (good p l z) in ih (after p l) (m - lineSize s) (w .small) (omega (arith, w .paid)) in
       rw (c, first-line s some) (alike p count l (linesOf (take (m - lineSize s) (drop (lineSize s) s))) (linesOf (drop (lineSize s) s)) next)
   by-line false e =

@@ -22,7 +22,8 @@ ending-start input at h = record { within = h; ahead = refl }
 pub ending-next : (input : List ℕ) (at end : ℕ) → end < length input → (getD input end 0 ≡ 10 → ⊥) → Ending input at end → Ending input at (end + 1)
 unfolding lineSize
 ending-next input at end h n r =
-    let e : lineSize (drop end input) ≡ suc (lineSize (drop (end + 1) input)) = rw (drop-cons input end 0 h, add-one end) (rw (ne-eqb (getD input end 0) 10 n)) in
+    let e : lineSize (drop end input) ≡ suc (lineSize (drop (end + 1) input)) =
+    rw (drop-cons input end 0 h, add-one end) (rw (ne-eqb (getD input end 0) 10 n)) in
     record { within = omega arith; ahead = omega (arith, r .ahead) }
 
 pub ending-feed : (input : List ℕ) (at end : ℕ) → end < length input → getD input end 0 ≡ 10 → Ending input at end

@@ -10,11 +10,13 @@ use lib.ListN.{length, take, drop, length-drop, take-append-drop, drop-of-length
 use lib.Seq.{length-take-le, drop-drop}
 use borrow.Author.Tests.{eq-eqb, ne-eqb}
 use Rattle.rules.specs.declared.Settings.{Settings}
-use Rattle.input.specs.declared.State.{State}
+use Rattle.lines.specs.Writing.{inFront}
+use Rattle.turns.specs.declared.State.{State}
 use Rattle.input.specs.declared.InputRead.{InputRead}
 use Rattle.input.specs.Lines.{linesOf, lineSize}
-use Rattle.input.specs.Grammar.{Progress, noSettings, nothingYet, lineNumber, after, refusedInput, stopped, finished, readLines, inputOf}
-use Rattle.input.specs.States.{inFront, progressOf, StateSafe, LineTaken}
+use Rattle.turns.specs.Turns.{Progress, lineNumber, after}
+use Rattle.input.specs.Grammar.{noSettings, nothingYet, refusedInput, stopped, finished, readLines, inputOf}
+use Rattle.turns.specs.States.{progressOf, StateSafe, LineTaken}
 use Rattle.input.proofs.Lines.{size-some, first-line}
 
 -- the first n of a list whose others are as they were
@@ -112,7 +114,9 @@ module _ {input before-first before-second : List ℕ} {s : State} {at line : �
         let k : at + (end - at) ≡ end = omega arith in
         first-line (drop at input) (omega (arith, length-drop at input)) ∙ rw (size, drop-drop (end - at) at input, k)
 
-    turn-of : inputOf input ≡ cond (eqb (lineNumber here this) 0) (readLines (after here this) (suc line) (linesOf (drop end input))) (stopped (lineNumber here this) (suc line) here)
+    turn-of : inputOf input
+        ≡ cond (eqb (lineNumber here this) 0) (readLines (after here this) (suc line) (linesOf (drop end input)))
+        (stopped (lineNumber here this) (suc line) here)
     unfolding readLines
     turn-of = r .ahead ∙ rw split
 
@@ -146,7 +150,8 @@ module _ {input before-first before-second : List ℕ} {s : State} {at line : �
         turn-of ∙ rw (w, m, p)
 
     pub stops : {a : InputRead} → (t .number ≡ 0 → ⊥) → a ≡ refusedInput (t .number) (line + 1)
-        → (a ≡ inputOf input .answer) × ((first-left ≡ inFront (inputOf input .first) before-first) × (second-left ≡ inFront (inputOf input .second) before-second))
+        → (a ≡ inputOf input .answer) × ((first-left ≡ inFront (inputOf input .first) before-first)
+        × (second-left ≡ inFront (inputOf input .second) before-second))
     unfolding stopped progressOf
     stops n q =
         let f = front-is (t .first) first-left before-first (omega (arith, taken .first-most, r .first-long)) rest-first in

@@ -17,13 +17,15 @@ use Rattle.lines.specs.Reading.{frameIn}
 use Rattle.lines.proofs.Storing.{digits-length}
 use Rattle.lines.proofs.RoundTrip.{Bytes, none, line-bytes, line-read}
 use Rattle.payloads.specs.Pieces.{codeBytes, codesIn, pieceFits}
-use Rattle.frames.specs.Kinds.{jobPayload, jobFits, jobLine, pieceLine, endLine}
-use Rattle.frames.specs.Readers.{jobIn}
+use Rattle.kinds.specs.Kinds.{jobPayload, jobFits, jobLine, pieceLine, endLine}
+use Rattle.readers.specs.Readers.{jobIn}
 use Rattle.payloads.proofs.Pieces.{PieceFits, piece-parts, packed-length, packed-are-bytes, codes-back}
-use Rattle.frames.proofs.Jobs.{JobForm, forward, stranded, job-form, forward-size, stranded-size, job-few, job-are-bytes}
-use Rattle.frames.proofs.RoundTrip.{job-frame}
+use Rattle.kinds.proofs.Jobs.{JobForm, forward, stranded, job-form, forward-size, stranded-size, job-few, job-are-bytes}
+use Rattle.readers.proofs.RoundTrip.{job-frame}
+use Rattle.pieces.specs.Letters.{isPiece, pieceNumber, lettersIn}
 use Rattle.input.specs.Lines.{linesOf, lineSize}
-use Rattle.input.specs.Grammar.{Progress, nothingYet, knownKind, inTurn, frameNumber, payloadIn, sizeNumber, jobSize, isPiece, pieceNumber, payloadNumber, lineNumber, lettersIn, after, finished, readLines, inputOf}
+use Rattle.turns.specs.Turns.{Progress, knownKind, inTurn, frameNumber, payloadIn, sizeNumber, jobSize, payloadNumber, lineNumber, after}
+use Rattle.input.specs.Grammar.{nothingYet, finished, readLines, inputOf}
 use Rattle.input.proofs.Lines.{first-line}
 
 -- ---- a written line is found again
@@ -49,7 +51,8 @@ unfolding lineOf
 line-found kind payload rest =
     let ds = digitsOf (frameOf kind payload) in
     let a : (ds ++ (10 ∷ [])) ++ rest ≡ ds ++ (10 ∷ rest) = append-assoc ds (10 ∷ []) rest in
-    let l : length (ds ++ (10 ∷ [])) ≡ 2 * length (frameOf kind payload) + 1 = omega (arith, length-append ds (10 ∷ []), digits-length (frameOf kind payload)) in
+    let l : length (ds ++ (10 ∷ [])) ≡ 2 * length (frameOf kind payload) + 1 =
+    omega (arith, length-append ds (10 ∷ []), digits-length (frameOf kind payload)) in
     let n : lineSize ((ds ++ (10 ∷ [])) ++ rest) ≡ 2 * length (frameOf kind payload) + 1 = rw a (digits-size (frameOf kind payload) rest) in
     first-line ((ds ++ (10 ∷ [])) ++ rest) (omega (arith, length-append (ds ++ (10 ∷ [])) rest))
     ∙ rw (n, take-at (ds ++ (10 ∷ [])) rest (2 * length (frameOf kind payload) + 1) l, drop-at (ds ++ (10 ∷ [])) rest (2 * length (frameOf kind payload) + 1) l)
@@ -69,7 +72,8 @@ module _ (kind : ℕ) (payload : List ℕ) (k : kind < 256) (long : length paylo
       let bs = kind ∷ length payload ∷ payload in
       rw (line-read kind payload k long bytes, line-bytes kind payload k long bytes) (take-at payload (checkOf bs ∷ []) (length payload) refl)
 
-  number-back : (p : Progress) → inTurn (p .turn) kind ≡ true → knownKind kind ≡ true → payloadNumber p kind payload ≡ 0 → lineNumber p (lineOf kind payload) ≡ 0
+  number-back : (p : Progress) → inTurn (p .turn) kind ≡ true → knownKind kind ≡ true → payloadNumber p kind payload ≡ 0
+      → lineNumber p (lineOf kind payload) ≡ 0
   unfolding lineNumber frameNumber
   number-back p t n e = rw (payload-back, line-read kind payload k long bytes) (rw (n, t) e)
 
@@ -150,7 +154,8 @@ module _ (c : Settings) (x f g : List ℕ) where
 
   second-number : (t : ℕ) → eqb t 1 || eqb t 2 ≡ true → pieceFits 2 x ≡ true → length g + length x ≤ 16384 → lineNumber (progress t c f g) (pieceLine 2 x) ≡ 0
   unfolding pieceLine inTurn knownKind payloadNumber
-  second-number t o fits h = number-back 3 (codeBytes x) (lit< tt) (few 2 x fits) (packed 2 x fits) (progress t c f g) o refl (piece-number 2 x fits (length g) h)
+  second-number t o fits h =
+      number-back 3 (codeBytes x) (lit< tt) (few 2 x fits) (packed 2 x fits) (progress t c f g) o refl (piece-number 2 x fits (length g) h)
 
   second-after : (t : ℕ) → pieceFits 2 x ≡ true → after (progress t c f g) (pieceLine 2 x) ≡ progress 2 c f (g ++ map letterOf x)
   unfolding pieceLine after
@@ -181,7 +186,8 @@ Fit s xs = (x : List ℕ) → List·Memᴰ x xs → pieceFits s x ≡ true
 
 module _ (c : Settings) where
   firsts : (xs : List (List ℕ)) (f g : List ℕ) (count : ℕ) (rest : List ℕ) → Fit 1 xs → length f + length (letters xs) ≤ 16384
-      → readLines (progress 1 c f g) count (linesOf (laid (pieceLine 1) xs ++ rest)) ≡ readLines (progress 1 c (f ++ letters xs) g) (count + length xs) (linesOf rest)
+      → readLines (progress 1 c f g) count (linesOf (laid (pieceLine 1) xs ++ rest))
+      ≡ readLines (progress 1 c (f ++ letters xs) g) (count + length xs) (linesOf rest)
   unfolding laid
   firsts [] f g count rest fit h =
       let n : count + 0 ≡ count = omega arith in
@@ -192,7 +198,8 @@ module _ (c : Settings) where
       let m = length-map x letterOf in
       let k : length (f ++ map letterOf x) ≡ length f + length x = length-append f (map letterOf x) ∙ ap (λ (n : ℕ). length f + n) m in
       let n : suc count + length xs ≡ count + suc (length xs) = omega arith in
-      let a : (pieceLine 1 x ++ laid (pieceLine 1) xs) ++ rest ≡ pieceLine 1 x ++ (laid (pieceLine 1) xs ++ rest) = append-assoc (pieceLine 1 x) (laid (pieceLine 1) xs) rest in
+      let a : (pieceLine 1 x ++ laid (pieceLine 1) xs) ++ rest ≡ pieceLine 1 x ++ (laid (pieceLine 1) xs ++ rest) =
+      append-assoc (pieceLine 1 x) (laid (pieceLine 1) xs) rest in
       ap (λ (s : List ℕ). readLines (progress 1 c f g) count (linesOf s)) a
       ∙ ap (readLines (progress 1 c f g) count) (piece-found 1 x (laid (pieceLine 1) xs ++ rest))
       ∙ line-on (progress 1 c f g) count (pieceLine 1 x) (linesOf (laid (pieceLine 1) xs ++ rest)) (first-number c x f g ft (omega arith))
@@ -211,7 +218,17 @@ module _ (c : Settings) where
 
   seconds : (ys : List (List ℕ)) (t : ℕ) (f g : List ℕ) (count : ℕ) → eqb t 1 || eqb t 2 ≡ true → Fit 2 ys → length g + length (letters ys) ≤ 16384
       → readLines (progress t c f g) count (linesOf (laid (pieceLine 2) ys ++ endLine))
-      ≡ record { answer = record { number = 0; line = 0; settings = c; first = length f; second = length (g ++ letters ys) }; first = f; second = g ++ letters ys }
+      ≡ record {
+        answer = record {
+          number = 0;
+          line = 0;
+          settings = c;
+          first = length f;
+          second = length (g ++ letters ys);
+        };
+        first = f;
+        second = g ++ letters ys;
+      }
   unfolding laid
   seconds [] t f g count o fit h = rw (append-nil g) (ended t f g count o)
   seconds (y ∷ ys) t f g count o fit h =
@@ -219,7 +236,8 @@ module _ (c : Settings) where
       let l = length-append (map letterOf y) (letters ys) in
       let m = length-map y letterOf in
       let k : length (g ++ map letterOf y) ≡ length g + length y = length-append g (map letterOf y) ∙ ap (λ (n : ℕ). length g + n) m in
-      let a : (pieceLine 2 y ++ laid (pieceLine 2) ys) ++ endLine ≡ pieceLine 2 y ++ (laid (pieceLine 2) ys ++ endLine) = append-assoc (pieceLine 2 y) (laid (pieceLine 2) ys) endLine in
+      let a : (pieceLine 2 y ++ laid (pieceLine 2) ys) ++ endLine ≡ pieceLine 2 y ++ (laid (pieceLine 2) ys ++ endLine) =
+      append-assoc (pieceLine 2 y) (laid (pieceLine 2) ys) endLine in
       ap (λ (s : List ℕ). readLines (progress t c f g) count (linesOf s)) a
       ∙ ap (readLines (progress t c f g) count) (piece-found 2 y (laid (pieceLine 2) ys ++ endLine))
       ∙ line-on (progress t c f g) count (pieceLine 2 y) (linesOf (laid (pieceLine 2) ys ++ endLine)) (second-number c y f g t o ft (omega arith))

@@ -4,12 +4,9 @@ use mathlib.Core.Path.{_≡_, refl}
 use mathlib.Core.List.{List, [], _∷_, _++_}
 use Prim.Native.Nat.{ℕ}
 use Rattle.rules.specs.Lists.{text, laid}
+use Rattle.rules.specs.Entered.{settings}
+use Rattle.lines.specs.Writing.{fed}
 use Rattle.input.specs.Grammar.{Outcome, refusedInput, inputOf}
-
--- lines, each with its line feed
-abbrev pub fed : List (List ℕ) → List ℕ
-unfolding laid
-fed lines = laid (λ (l : List ℕ). l ++ (10 ∷ [])) lines
 
 abbrev pub job : List ℕ
 unfolding text
@@ -32,12 +29,12 @@ abbrev pub P1-read : ℕ → Outcome
 unfolding text
 P1-read strand =
     record {
-      answer = record { number = 0; line = 0; settings = record { k = 2; b = 2; a = 8; m = 0; strand = strand }; first = 5; second = 5 };
+      answer = record { number = 0; line = 0; settings = settings 2 2 8 0 strand; first = 5; second = 5 };
       first = text "ACCGT";
       second = text "ACGGT";
     }
 
-pub P1 : inputOf (fed (job ∷ first ∷ second ∷ end ∷ [])) ≡ P1-read 0
+pub P1 : inputOf (laid fed (job ∷ first ∷ second ∷ end ∷ [])) ≡ P1-read 0
 unfolding inputOf text laid
 P1 = refl
 
@@ -46,61 +43,61 @@ pub nothing : inputOf [] .answer ≡ refusedInput 24 1
 unfolding inputOf
 nothing = refl
 
-pub no-end : inputOf (fed (job ∷ first ∷ second ∷ [])) .answer ≡ refusedInput 24 4
+pub no-end : inputOf (laid fed (job ∷ first ∷ second ∷ [])) .answer ≡ refusedInput 24 4
 unfolding inputOf text laid
 no-end = refl
 
-pub two-ends : inputOf (fed (job ∷ end ∷ end ∷ [])) .answer ≡ refusedInput 24 3
+pub two-ends : inputOf (laid fed (job ∷ end ∷ end ∷ [])) .answer ≡ refusedInput 24 3
 unfolding inputOf text laid
 two-ends = refl
 
 -- 24: the second sequence before the first
-pub out-of-turn : inputOf (fed (job ∷ second ∷ first ∷ end ∷ [])) .answer ≡ refusedInput 24 3
+pub out-of-turn : inputOf (laid fed (job ∷ second ∷ first ∷ end ∷ [])) .answer ≡ refusedInput 24 3
 unfolding inputOf text laid
 out-of-turn = refl
 
 -- 20 comes before 24: text after the end, a last line without its line feed, lower case
-pub text-after : inputOf (fed (job ∷ end ∷ text "end" ∷ [])) .answer ≡ refusedInput 20 3
+pub text-after : inputOf (laid fed (job ∷ end ∷ text "end" ∷ [])) .answer ≡ refusedInput 20 3
 unfolding inputOf text laid
 text-after = refl
 
-pub no-feed : inputOf (fed (job ∷ first ∷ second ∷ []) ++ end) .answer ≡ refusedInput 20 4
+pub no-feed : inputOf (laid fed (job ∷ first ∷ second ∷ []) ++ end) .answer ≡ refusedInput 20 4
 unfolding inputOf text laid
 no-feed = refl
 
-pub lower-case : inputOf (fed (text "0400fc" ∷ [])) .answer ≡ refusedInput 20 1
+pub lower-case : inputOf (laid fed (text "0400fc" ∷ [])) .answer ≡ refusedInput 20 1
 unfolding inputOf text laid
 lower-case = refl
 
 -- 25: a 0 code before the last half, and an odd last half in the middle of a sequence is no such code
-pub zero-code : inputOf (fed (job ∷ text "02021001EB" ∷ end ∷ [])) .answer ≡ refusedInput 25 2
+pub zero-code : inputOf (laid fed (job ∷ text "02021001EB" ∷ end ∷ [])) .answer ≡ refusedInput 25 2
 unfolding inputOf text laid
 zero-code = refl
 
-pub odd-pieces : inputOf (fed (job ∷ text "020110ED" ∷ text "020120DD" ∷ end ∷ [])) .first ≡ text "AC"
+pub odd-pieces : inputOf (laid fed (job ∷ text "020110ED" ∷ text "020120DD" ∷ end ∷ [])) .first ≡ text "AC"
 unfolding inputOf text laid
 odd-pieces = refl
 
 -- ---- CR 1: "a job of 8 payload bytes ends with the strand"
 
-pub P1-both : inputOf (fed (text "01080200020008000001EA" ∷ first ∷ second ∷ end ∷ [])) ≡ P1-read 1
+pub P1-both : inputOf (laid fed (text "01080200020008000001EA" ∷ first ∷ second ∷ end ∷ [])) ≡ P1-read 1
 unfolding inputOf text laid
 P1-both = refl
 
 -- a strand of 0 may be written out, and one of 2 is read as it is
-pub strand-0 : inputOf (fed (text "01080200020008000000EB" ∷ first ∷ second ∷ end ∷ [])) ≡ P1-read 0
+pub strand-0 : inputOf (laid fed (text "01080200020008000000EB" ∷ first ∷ second ∷ end ∷ [])) ≡ P1-read 0
 unfolding inputOf text laid
 strand-0 = refl
 
-pub strand-2 : inputOf (fed (text "01080200020008000002E9" ∷ first ∷ second ∷ end ∷ [])) ≡ P1-read 2
+pub strand-2 : inputOf (laid fed (text "01080200020008000002E9" ∷ first ∷ second ∷ end ∷ [])) ≡ P1-read 2
 unfolding inputOf text laid
 strand-2 = refl
 
 -- 25: jobs of 9 bytes and of 6
-pub nine-bytes : inputOf (fed (text "0109020002000800000100E9" ∷ end ∷ [])) .answer ≡ refusedInput 25 1
+pub nine-bytes : inputOf (laid fed (text "0109020002000800000100E9" ∷ end ∷ [])) .answer ≡ refusedInput 25 1
 unfolding inputOf text laid
 nine-bytes = refl
 
-pub six-bytes : inputOf (fed (text "0106020002000800ED" ∷ end ∷ [])) .answer ≡ refusedInput 25 1
+pub six-bytes : inputOf (laid fed (text "0106020002000800ED" ∷ end ∷ [])) .answer ≡ refusedInput 25 1
 unfolding inputOf text laid
 six-bytes = refl

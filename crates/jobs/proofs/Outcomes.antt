@@ -21,7 +21,8 @@ use Rattle.rules.proofs.Tests.{Three, below, equal, above, three}
 use Rattle.rules.proofs.Outcomes.{compares-7, compares-8, compares-0, stops-7, stops-19, stops-0}
 use Rattle.matches.specs.Walks.{WalkSafe, Described}
 use Rattle.tally.specs.declared.Counts.{Counts}
-use Rattle.tally.specs.Tallies.{MatchedBefore, Counted, Linked}
+use Rattle.tally.specs.Tallies.{MatchedBefore, Counted}
+use Rattle.links.specs.Totals.{Linked}
 use Rattle.predecessors.specs.declared.Ring.{Ring}
 use Rattle.predecessors.specs.Numbers.{slotOf}
 use Rattle.sweep.specs.Sweeping.{SweepSafe, HoldsRun}

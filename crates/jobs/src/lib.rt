@@ -145,6 +145,6 @@ pub fn stop_matches(
         return prepare::refuse(19, 0, firsts.len() as u64);
     }
     let held = hold(firsts, nexts, widest, c, work, row);
-    let links = tally::count_links(firsts, nexts, b);
+    let links = links::count_links(firsts, nexts, b);
     done(held, counts, links)
 }

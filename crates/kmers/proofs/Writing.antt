@@ -38,7 +38,8 @@ written-next s k before out n p code e l c r =
     let was : out ≡ done ++ getD before p 0 ∷ drop (suc p) before = r .filled ∙ rw (now, drop-cons before p 0 room) in
     record {
       long = length-set out p code ∙ r .long;
-      filled = rw (next, ← c, append-snoc done code (drop (suc p) before), was) (set-at done (getD before p 0) (drop (suc p) before) code p (codesTo-length k s p));
+      filled =
+          rw (next, ← c, append-snoc done code (drop (suc p) before), was) (set-at done (getD before p 0) (drop (suc p) before) code p (codesTo-length k s p));
     }
 
 pub written-end : (s : List ℕ) (k : ℕ) (before out : List ℕ) (n : ℕ) → n ≡ length s → Written s k before out n → out ≡ codes k s ++ drop (places k s) before

@@ -127,9 +127,11 @@ pub record Decoding (line before bytes : List ℕ) (i n sum : ℕ) : Type 0 wher
   pub summed : (sum + byteSum (bytesIn (drop i line))) % 256 ≡ byteSum (bytesIn line) % 256
 
 pub decoding-start : (line bytes : List ℕ) → closed line ≡ true → Decoding line bytes bytes 0 0 0
-decoding-start line bytes h = record { at = refl; within = omega arith; long = refl; ok = h; stored = refl; counted = omega arith; small = omega arith; summed = omega arith }
+decoding-start line bytes h =
+    record { at = refl; within = omega arith; long = refl; ok = h; stored = refl; counted = omega arith; small = omega arith; summed = omega arith }
 
-pub decoding-next : (line before bytes : List ℕ) (i n sum byte more : ℕ) → i + 1 < length line → byte ≡ nibbleOf (getD line i 0) * 16 + nibbleOf (getD line (i + 1) 0)
+pub decoding-next : (line before bytes : List ℕ) (i n sum byte more : ℕ) → i + 1 < length line
+    → byte ≡ nibbleOf (getD line i 0) * 16 + nibbleOf (getD line (i + 1) 0)
     → more ≡ (sum + byte) % 256 → Decoding line before bytes i n sum → Decoding line before (set bytes n byte) (i + 2) (n + 1) more
 unfolding bytesIn byteSum
 decoding-next line before bytes i n sum byte more h e m r =
@@ -174,5 +176,6 @@ bytes-length (a ∷ []) h = refl
 bytes-length (a ∷ b ∷ s) h = omega (arith, bytes-length s (and-right (ltb (nibbleOf a) 16 && ltb (nibbleOf b) 16) (closed s) h))
 
 -- the bytes of a line are the first of those that were stored
-pub byte-at : (line before : List ℕ) (i : ℕ) → i < length (bytesIn line) → length (bytesIn line) ≤ length before → getD (sets before 0 (bytesIn line)) i 0 ≡ getD (bytesIn line) i 0
+pub byte-at : (line before : List ℕ) (i : ℕ) → i < length (bytesIn line) → length (bytesIn line) ≤ length before
+    → getD (sets before 0 (bytesIn line)) i 0 ≡ getD (bytesIn line) i 0
 byte-at line before i h g = rw (sets-front before (bytesIn line) g) (List·getD-append (bytesIn line) _ 0 i h)

@@ -69,8 +69,10 @@ pub frame-read : (line : List ℕ) → frameIn line .number ≡ 0 → FrameRead 
 unfolding frameIn frameFrom refusedFrame
 frame-read line z = go (isLine line) (eqb (getD (bytesIn line) 1 0 + 3) (length (bytesIn line))) (eqb (byteSum (bytesIn line) % 256) 0) refl refl refl
   where
-    go : (a b d : Bool) → isLine line ≡ a → eqb (getD (bytesIn line) 1 0 + 3) (length (bytesIn line)) ≡ b → eqb (byteSum (bytesIn line) % 256) 0 ≡ d → FrameRead line
+    go : (a b d : Bool) → isLine line ≡ a → eqb (getD (bytesIn line) 1 0 + 3) (length (bytesIn line)) ≡ b → eqb (byteSum (bytesIn line) % 256) 0 ≡ d
+        → FrameRead line
     go false b d p q r = let n = rw p at z in absurd (omega arith)
     go true false d p q r = let n = rw (p, q) at z in absurd (omega arith)
     go true true false p q r = let n = rw (p, q, r) at z in absurd (omega arith)
-    go true true true p q r = record { ok = p; long = eqb-true (getD (bytesIn line) 1 0 + 3) (length (bytesIn line)) q; kind = rw (p, q, r); size = rw (p, q, r) }
+    go true true true p q r =
+        record { ok = p; long = eqb-true (getD (bytesIn line) 1 0 + 3) (length (bytesIn line)) q; kind = rw (p, q, r); size = rw (p, q, r) }

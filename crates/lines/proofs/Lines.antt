@@ -20,7 +20,8 @@ line-length kind payload =
     omega (arith, length-append (digitsOf f) (10 ∷ []), digits-length f, length-append bs (checkOf bs ∷ []))
 
 -- a writer's two ways out
-pub refuses : (line out : List ℕ) (fits : Bool) → isWritten fits line out ≡ false → (record { number = 27; length = 0 } ≡ written fits line out) × (out ≡ leaves fits line out)
+pub refuses : (line out : List ℕ) (fits : Bool) → isWritten fits line out ≡ false
+    → (record { number = 27; length = 0 } ≡ written fits line out) × (out ≡ leaves fits line out)
 unfolding written leaves
 refuses line out fits e = rw e (refl, refl)
 

@@ -95,5 +95,8 @@ line-unique k p l q hk hp bp hl hq bq e =
     let f : k ∷ length p ∷ (p ++ (checkOf (k ∷ length p ∷ p) ∷ [])) ≡ l ∷ length q ∷ (q ++ (checkOf (l ∷ length q ∷ q) ∷ [])) =
     sym (line-bytes k p hk hp bp) ∙ ap bytesIn e ∙ line-bytes l q hl hq bq in
     let n : length p ≡ length q = cc in
-    let t : p ++ (checkOf (k ∷ length p ∷ p) ∷ []) ≡ q ++ (checkOf (l ∷ length q ∷ q) ∷ []) = cc in
-    (cc, sym (take-at p (checkOf (k ∷ length p ∷ p) ∷ []) (length p) refl) ∙ ap (take (length p)) t ∙ take-at q (checkOf (l ∷ length q ∷ q) ∷ []) (length p) (sym n))
+    let t : p ++ (checkOf (k ∷ length p ∷ p) ∷ []) ≡ q ++ (checkOf (l ∷ length q ∷ q) ∷ []) = cc in (
+      cc,
+      sym (take-at p (checkOf (k ∷ length p ∷ p) ∷ []) (length p) refl) ∙ ap (take (length p)) t
+          ∙ take-at q (checkOf (l ∷ length q ∷ q) ∷ []) (length p) (sym n),
+    )

@@ -22,10 +22,14 @@ unfoldable pub frameOf : ℕ → List ℕ → List ℕ
 unfolding checkOf
 frameOf kind payload = let bs = kind ∷ length payload ∷ payload in bs ++ (checkOf bs ∷ [])
 
+-- a line as it is quoted, and its line feed
+abbrev pub fed : List ℕ → List ℕ
+fed line = line ++ (10 ∷ [])
+
 -- "capital digits, then a line feed"
 unfoldable pub lineOf : ℕ → List ℕ → List ℕ
 unfolding frameOf digitsOf
-lineOf kind payload = digitsOf (frameOf kind payload) ++ (10 ∷ [])
+lineOf kind payload = fed (digitsOf (frameOf kind payload))
 
 -- a line is written where its values fit and "the slice is [not] shorter than the line with its line feed"
 unfoldable pub isWritten : Bool → List ℕ → List ℕ → Bool
@@ -36,7 +40,11 @@ unfoldable pub written : Bool → List ℕ → List ℕ → Written
 unfolding isWritten
 written fits line out = cond (isWritten fits line out) (record { number = 0; length = length line }) (record { number = 27; length = 0 })
 
+-- some bytes in front of a slice, and behind them what was there
+unfoldable pub inFront : List ℕ → List ℕ → List ℕ
+inFront bytes old = bytes ++ drop (length bytes) old
+
 -- "slice untouched"; otherwise the line, "and bytes after the line stay as they were"
 unfoldable pub leaves : Bool → List ℕ → List ℕ → List ℕ
-unfolding isWritten
-leaves fits line out = cond (isWritten fits line out) (line ++ drop (length line) out) out
+unfolding isWritten inFront
+leaves fits line out = cond (isWritten fits line out) (inFront line out) out

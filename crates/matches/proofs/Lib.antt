@@ -1,6 +1,3 @@
-pub mod Links
-pub mod Counting
-pub mod Striking
 pub mod Totals
 pub mod Rows
 pub mod Walking

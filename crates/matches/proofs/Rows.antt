@@ -12,11 +12,12 @@ use borrow.Author.Tests.{ltb-true, leb-true, eqb-true, lt-ltb, eq-eqb, le-leb, l
 use Rattle.rules.specs.Matches.{cell}
 use Rattle.rules.specs.Codes.{codeAt, codeTotal, codeMatch}
 use Rattle.order.proofs.Cases.{le-or-lt, eq-or-ne, both-true, not-true}
-use Rattle.owners.proofs.Hits.{Hit, first-hit}
-use Rattle.owners.proofs.Owns.{own-none, own-first}
-use Rattle.matches.specs.Columns.{firstColumn, FirstColumns, NextColumns}
+use Rattle.ownership.proofs.Hits.{Hit, first-hit}
+use Rattle.ownership.proofs.Owns.{own-none, own-first}
+use Rattle.nexts.specs.Nexts.{NextColumns}
+use Rattle.matches.specs.Columns.{firstColumn, FirstColumns}
 use Rattle.matches.specs.Walks.{NextMatch, none-left, next-is, RowWalk}
-use Rattle.matches.proofs.Links.{next-first}
+use Rattle.nexts.proofs.Links.{next-first}
 
 -- ---- a match as facts
 

@@ -14,11 +14,11 @@ use Rattle.rules.specs.Codes.{codeAt, occurrences, codeTotal}
 use Rattle.order.specs.Counts.{countIn}
 use Rattle.order.proofs.Cases.{le-or-lt, eq-or-ne}
 use Rattle.order.proofs.Counts.{count-zero, count-yes, count-no}
-use Rattle.owners.specs.Owners.{ownOf, Owned}
-use Rattle.owners.proofs.Owns.{owner-of, same-owner}
+use Rattle.ownership.specs.Owners.{ownOf, Owned}
+use Rattle.ownership.proofs.Owns.{owner-of, same-owner}
 use Rattle.matches.specs.Columns.{firstColumn, FirstColumns}
-use Rattle.matches.specs.Steps.{Zeros, Tallied, unlessAbove, cappedAt, Capped}
-use Rattle.matches.proofs.Striking.{unless-alike}
+use Rattle.totals.specs.Steps.{Zeros, Upto, Tallied, unlessAbove, cappedAt, Capped}
+use Rattle.totals.proofs.Striking.{unless-alike}
 
 -- the occurrences of `rules` are counts of the first places
 count-occurrences : (codes : List ℕ) (c n : ℕ) → countTo (λ p. eqb (codeAt codes p) c) n ≡ countIn codes c n
@@ -30,6 +30,10 @@ pub total-counted : (first second : List ℕ) (c : ℕ)
     → codeTotal first second c ≡ countIn first c (length first) + countIn second c (length second)
 unfolding codeTotal occurrences
 total-counted first second c = omega (arith, count-occurrences first c (length first), count-occurrences second c (length second))
+
+-- an owner is a column
+pub owned-upto : {second codes own₀ own : List ℕ} {k n m : ℕ} → k ≤ n → length second ≤ m → Owned second codes own₀ own n → Upto own k m
+owned-upto {second} {codes} h l o = record { upto = λ p b. omega (arith, o .owners p (omega arith), owner-of second (getD codes p 0) .within) }
 
 -- owners count as codes do
 own-count : {second codes own₀ own : List ℕ} {n : ℕ} → Owned second codes own₀ own n → (c : ℕ) → 0 < ownOf second c → (m : ℕ) → m ≤ n
@@ -58,7 +62,8 @@ first-columns {first} {second} {own₀} {own} {firsts₀} {firsts₁} {firsts₂
       let c : ℕ = getD first p 0 in
       let e : ℕ = ownOf second c in
       o .rows .each p k
-      ∙ rw (of .owners p k) (unless-alike a (getD count₂ (e - 1) 0) (codeTotal first second c) (λ z l. omega (arith, counted c z)) (λ z l. omega (arith, counted c z)));
+      ∙ rw (of .owners p k) (unless-alike a (getD count₂ (e - 1) 0) (codeTotal first second c) (λ z l. omega (arith, counted c z))
+      (λ z l. omega (arith, counted c z)));
   others = λ p k. o .rows .others p k ∙ of .others p k;
 }
   where

@@ -6,7 +6,8 @@ use Prim.Native.Nat.{ℕ, _<_, _≤_}
 use lib.ListN.{length}
 use lib.Seq.{ext-getD}
 use Rattle.order.proofs.Cases.{le-or-lt}
-use Rattle.matches.specs.Columns.{FirstColumns, NextColumns}
+use Rattle.nexts.specs.Nexts.{NextColumns}
+use Rattle.matches.specs.Columns.{FirstColumns}
 
 pub firsts-one : {first second : List ℕ} {a : ℕ} {firsts₀ x y : List ℕ} → FirstColumns first second a firsts₀ x
     → FirstColumns first second a firsts₀ y → x ≡ y

@@ -11,7 +11,8 @@ use Rattle.rules.specs.declared.Cell.{Cell}
 use Rattle.rules.specs.Matches.{cell, rowTo}
 use Rattle.rules.specs.Codes.{codeMatch}
 use Rattle.order.proofs.Cases.{le-or-lt, true-not-false, true-or-false}
-use Rattle.matches.specs.Columns.{FirstColumns, NextColumns}
+use Rattle.nexts.specs.Nexts.{NextColumns}
+use Rattle.matches.specs.Columns.{FirstColumns}
 use Rattle.matches.specs.Walks.{NextMatch, none-left, next-is, RowWalk, walk}
 use Rattle.matches.proofs.Rows.{row-walk}
 

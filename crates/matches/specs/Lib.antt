@@ -1,4 +1,3 @@
--- Columns is the contract, Walks what a sweep makes of it; Steps are the promises of the functions inside.
+-- Columns is the contract, Walks what a sweep makes of it.
 pub mod Columns
 pub mod Walks
-pub mod Steps

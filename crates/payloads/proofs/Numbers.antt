@@ -112,7 +112,8 @@ number-back before after zero x h = omega arith
 number-back before after (suc n) x h =
     let s : x / 256 < 256 ^ n = omega (arith, h) in
     let bs = numberBytes n (x / 256) in
-    let e : before ++ (bs ++ (x % 256 ∷ []) ++ after) ≡ before ++ (bs ++ (x % 256 ∷ after)) = ap (λ (l : List ℕ). before ++ l) (append-assoc bs (x % 256 ∷ []) after) in
+    let e : before ++ (bs ++ (x % 256 ∷ []) ++ after) ≡ before ++ (bs ++ (x % 256 ∷ after)) =
+    ap (λ (l : List ℕ). before ++ l) (append-assoc bs (x % 256 ∷ []) after) in
     let l : length before + n ≡ length before + (length bs + 0) = omega (arith, number-length n (x / 256)) in
     let g : getD (before ++ (bs ++ (x % 256 ∷ after))) (length before + n) 0 ≡ x % 256 =
     rw l (getD-append-add before (bs ++ (x % 256 ∷ after)) (length bs + 0) 0 ∙ getD-append-add bs (x % 256 ∷ after) 0 0) in

@@ -114,7 +114,8 @@ module _ (codes before payload : List ℕ) (i n : ℕ) (h : length codes ≤ i) 
   packed-count = omega (arith, ap length ahead, r .counted)
 
 -- and they stand in front
-pub packed-front : (codes old payload : List ℕ) (n : ℕ) → n ≡ length (codeBytes codes) → payload ≡ sets old 0 (codeBytes codes) → length (codeBytes codes) ≤ length old
+pub packed-front : (codes old payload : List ℕ) (n : ℕ) → n ≡ length (codeBytes codes) → payload ≡ sets old 0 (codeBytes codes)
+    → length (codeBytes codes) ≤ length old
     → take n payload ≡ codeBytes codes
 packed-front codes old payload n e s h = rw (s, sets-front old (codeBytes codes) h) (take-at (codeBytes codes) _ n (sym e))
 

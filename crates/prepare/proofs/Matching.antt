@@ -13,10 +13,11 @@ use Rattle.rules.specs.Matches.{isMatch}
 use Rattle.rules.specs.Codes.{codes, codeMatch}
 use Rattle.rules.proofs.Tests.{Three, below, equal, above, three}
 use Rattle.rules.proofs.Kmers.{codes-length, match-by-code}
-use Rattle.matches.specs.Columns.{FirstColumns, NextColumns}
+use Rattle.nexts.specs.Nexts.{NextColumns}
+use Rattle.nexts.proofs.Links.{nexts-within, nexts-rise}
+use Rattle.matches.specs.Columns.{FirstColumns}
 use Rattle.matches.specs.Walks.{RowWalk}
 use Rattle.matches.proofs.Totals.{firsts-within}
-use Rattle.matches.proofs.Links.{nexts-within, nexts-rise}
 use Rattle.matches.proofs.Rows.{row-walk}
 use Rattle.prepare.specs.Prepared.{Accepted, Blank, Matched}
 

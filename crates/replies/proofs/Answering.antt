@@ -18,13 +18,13 @@ use Rattle.rules.proofs.Strands.{entry-size, entries-size}
 use Rattle.prepare.proofs.Checking.{accepted}
 use Rattle.compare.proofs.Demands.{Compared, refused, no-work-room, no-list-room, listed, demand-1}
 use Rattle.lines.specs.declared.Written.{Written}
-use Rattle.lines.specs.Writing.{written, leaves}
+use Rattle.lines.specs.Writing.{inFront, written, leaves}
 use Rattle.lines.proofs.Lines.{line-length}
-use Rattle.frames.specs.declared.Done.{Done}
-use Rattle.frames.specs.declared.Refused.{Refused}
+use Rattle.kinds.specs.declared.Done.{Done}
+use Rattle.kinds.specs.declared.Refused.{Refused}
 use Rattle.payloads.specs.Numbers.{numberBytes}
-use Rattle.frames.specs.Kinds.{entryFits, donePayload, doneFits, doneLine, refusedPayload, refusedFits, refusedLine}
-use Rattle.replies.specs.Output.{entryOf, lineOfEntry, doneOf, refusedOf, answerOf, jobOutput, inFront}
+use Rattle.kinds.specs.Kinds.{entryFits, donePayload, doneFits, doneLine, refusedPayload, refusedFits, refusedLine}
+use Rattle.replies.specs.Output.{entryOf, lineOfEntry, doneOf, refusedOf, answerOf, jobOutput}
 use Rattle.replies.specs.Entries.{entryIn, entriesIn, EntriesSafe, ListingSafe, listingLines}
 use Rattle.replies.proofs.Writing.{wrote, rest-long, line-behind, entries-length}
 use Rattle.replies.proofs.Sizes.{Small, checked-small, match-sum-few, need-few, entries-few, entry-fits}

@@ -32,7 +32,7 @@ use Rattle.rules.proofs.Theorems.{one-record-each}
 use Rattle.letters.proofs.FirstBad.{bad-first}
 use Rattle.prepare.specs.Prepared.{Accepted}
 use Rattle.prepare.proofs.Reversing.{turned-accepted}
-use Rattle.frames.specs.Kinds.{entryFits}
+use Rattle.kinds.specs.Kinds.{entryFits}
 use Rattle.replies.specs.Output.{entryOf}
 
 keep-few : {A : Type 0} (f : A → Bool) (xs : List A) → length (keep f xs) ≤ length xs

@@ -17,8 +17,8 @@ use Rattle.lines.specs.declared.Written.{Written}
 use Rattle.lines.specs.Writing.{written, leaves}
 use Rattle.lines.proofs.Lines.{line-length}
 use Rattle.payloads.specs.Numbers.{numberBytes}
-use Rattle.frames.specs.declared.Entry.{Entry}
-use Rattle.frames.specs.Kinds.{entryPayload, entryFits, entryLine, reverseLine}
+use Rattle.kinds.specs.declared.Entry.{Entry}
+use Rattle.kinds.specs.Kinds.{entryPayload, entryFits, entryLine, reverseLine}
 use Rattle.replies.specs.Output.{entryOf, lineOfEntry}
 use Rattle.replies.specs.Entries.{entryIn, entriesIn, EntriesSafe}
 

@@ -6,7 +6,7 @@ use Prim.Native.Nat.{ℕ, zero, suc, _+_, _*_, _<_, _≤_}
 use lib.ListN.{length, getD}
 use Rattle.rules.specs.declared.Answer.{Answer}
 use Rattle.rules.specs.Lists.{laid}
-use Rattle.frames.specs.Kinds.{entryFits, doneFits, doneLine}
+use Rattle.kinds.specs.Kinds.{entryFits, doneFits, doneLine}
 use Rattle.replies.specs.Output.{entryOf, lineOfEntry, doneOf}
 
 -- the six numbers behind n entries

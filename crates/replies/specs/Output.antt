@@ -4,16 +4,16 @@ use mathlib.Core.Bool.{cond}
 use mathlib.Core.List.{List, _++_}
 use Prim.Native.Nat.{ℕ}
 use lib.Dec.{eqb}
-use lib.ListN.{length, getD, drop, replicate}
+use lib.ListN.{getD, replicate}
 use Rattle.rules.specs.declared.Settings.{Settings}
 use Rattle.rules.specs.declared.Answer.{Answer}
 use Rattle.rules.specs.Lists.{laid}
 use Rattle.rules.specs.Strands.{entries}
 use Rattle.rules.specs.Answers.{compared}
-use Rattle.frames.specs.declared.Entry.{Entry}
-use Rattle.frames.specs.declared.Done.{Done}
-use Rattle.frames.specs.declared.Refused.{Refused}
-use Rattle.frames.specs.Kinds.{entryLine, reverseLine, doneLine, refusedLine}
+use Rattle.kinds.specs.declared.Entry.{Entry}
+use Rattle.kinds.specs.declared.Done.{Done}
+use Rattle.kinds.specs.declared.Refused.{Refused}
+use Rattle.kinds.specs.Kinds.{entryLine, reverseLine, doneLine, refusedLine}
 
 -- the first five numbers of an entry
 unfoldable pub entryOf : List ℕ → Entry
@@ -45,7 +45,3 @@ unfolding answerOf entries laid lineOfEntry doneLine doneOf refusedLine refusedO
 jobOutput c first second =
     let x = answerOf c first second in
     cond (eqb (x .number) 0) (laid lineOfEntry (entries c first second) ++ doneLine (doneOf x)) (refusedLine (refusedOf x))
-
--- what is left of an output slice: a text in front, and behind it what was there
-unfoldable pub inFront : List ℕ → List ℕ → List ℕ
-inFront text output = text ++ drop (length text) output

@@ -1,8 +1,8 @@
 // The whole output of a job, as lines of frames.
-use frames::Done;
-use frames::Entry;
-use frames::Refused;
-use frames::Span;
+use kinds::Done;
+use kinds::Entry;
+use kinds::Refused;
+use kinds::Span;
 use lines::Written;
 use rules::Answer;
 use rules::Settings;
@@ -12,9 +12,9 @@ ghost use mathlib.Core.List.{_++_};
 ghost use Prim.Native.Nat.{_+_, _*_, _≤_};
 ghost use lib.ListN.{length, drop};
 ghost use Rattle.rules.specs.Lists.{laid};
-ghost use Rattle.lines.specs.Writing.{written, leaves};
-ghost use Rattle.frames.specs.Kinds.{entryFits, refusedLine, refusedFits};
-ghost use Rattle.replies.specs.Output.{entryOf, lineOfEntry, jobOutput, inFront};
+ghost use Rattle.lines.specs.Writing.{inFront, written, leaves};
+ghost use Rattle.kinds.specs.Kinds.{entryFits, refusedLine, refusedFits};
+ghost use Rattle.replies.specs.Output.{entryOf, lineOfEntry, jobOutput};
 ghost use Rattle.replies.specs.Entries.{entryIn, entriesIn, EntriesSafe, ListingSafe, listingLines};
 
 // The first five numbers of the entry behind n others.
@@ -46,9 +46,9 @@ fn put_entry(list: &[u32], n: usize, output: &mut [u8]) -> Written
 {
     let entry = entry_at(list, n);
     if list[6 * n + 5] == 0 {
-        return frames::write_entry(entry, output);
+        return writers::write_entry(entry, output);
     }
-    frames::write_reverse_entry(entry, output)
+    writers::write_reverse_entry(entry, output)
 }
 
 // Writes the first entries of a list room, a line each, and returns where the lines end.
@@ -87,7 +87,7 @@ fn put_listing(list: &[u32], x: Answer, output: &mut [u8]) -> usize
         widest: x.widest,
         links: x.links,
     };
-    let line = frames::write_done(done, &mut output[at..]);
+    let line = writers::write_done(done, &mut output[at..]);
     at + line.length
 }
 
@@ -98,7 +98,7 @@ pub fn put_refused(x: Refused, output: &mut [u8]) -> usize
     ensures { λ r. ⌜ r ≡ length (refusedLine x) ⌝ }
     ensures { λ _. ⌜ now (output .exit) ≡ inFront (refusedLine x) (now (output .entry)) ⌝ }
 {
-    let line = frames::write_refused(x, output);
+    let line = writers::write_refused(x, output);
     line.length
 }
 

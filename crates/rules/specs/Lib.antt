@@ -1,5 +1,6 @@
 -- What a reader must believe, in the order and the words of document 01, with document 02's CR 1 to CR 3 where they belong.
 pub mod Lists
+pub mod Entered
 pub mod Letters
 pub mod Places
 pub mod Matches

@@ -10,8 +10,9 @@ use Rattle.rules.specs.Rooms.{largestRun, pairs}
 use Rattle.rules.proofs.Bounds.{few-matches}
 use Rattle.matches.specs.Walks.{WalkSafe}
 use Rattle.tally.specs.declared.Counts.{Counts}
-use Rattle.tally.specs.Tallies.{Counted, Linked}
-use Rattle.tally.proofs.Pairs.{pairs-few}
+use Rattle.tally.specs.Tallies.{Counted}
+use Rattle.links.specs.Totals.{Linked}
+use Rattle.links.proofs.Pairs.{pairs-few}
 use Rattle.strands.specs.Strands.{largerOf, WalkTo, CountsBoth, LinksBoth}
 
 -- ---- one strand

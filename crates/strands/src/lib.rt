@@ -25,7 +25,7 @@ pub fn count_strands(
     let forward = tally::count_matches(firsts, nexts, b);
     let reverse = tally::count_matches(reverse_firsts, reverse_nexts, b);
     let matches = forward.matches + reverse.matches;
-    let widest = tally::larger(forward.widest, reverse.widest);
+    let widest = casts::larger(forward.widest, reverse.widest);
     Counts { matches, widest }
 }
 
@@ -41,8 +41,8 @@ pub fn link_strands(
     requires { ⌜ WalkSafe (now «reverse_firsts») (now «reverse_nexts») ⌝ }
     ensures { λ r. ⌜ LinksBoth (now (firsts .entry)) (now (nexts .entry)) (now («reverse_firsts» .entry)) (now («reverse_nexts» .entry)) b r ⌝ }
 {
-    let forward = tally::count_links(firsts, nexts, b);
-    let reverse = tally::count_links(reverse_firsts, reverse_nexts, b);
+    let forward = links::count_links(firsts, nexts, b);
+    let reverse = links::count_links(reverse_firsts, reverse_nexts, b);
     std::num::wrapping_add_u64(forward, reverse)
 }
 

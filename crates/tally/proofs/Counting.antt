@@ -19,7 +19,8 @@ count-all [] = refl
 count-all (x ∷ xs) = omega (arith, count-all xs)
 
 -- a test that passes what one or the other of two tests passes, and no element both
-pub count-two : {A : Type 0} (f g h : A → Bool) (xs : List A) → ((x : A) → cond {A = ℕ} (f x) 1 0 ≡ cond {A = ℕ} (g x) 1 0 + cond {A = ℕ} (h x) 1 0) → count f xs ≡ count g xs + count h xs
+pub count-two : {A : Type 0} (f g h : A → Bool) (xs : List A) → ((x : A) → cond {A = ℕ} (f x) 1 0 ≡ cond {A = ℕ} (g x) 1 0 + cond {A = ℕ} (h x) 1 0)
+    → count f xs ≡ count g xs + count h xs
 unfolding count
 count-two f g h [] e = refl
 count-two f g h (x ∷ xs) e = omega (arith, count-two f g h xs e, e x)

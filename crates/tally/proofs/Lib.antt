@@ -3,9 +3,4 @@ pub mod RowSizes
 pub mod Counting
 pub mod MatchedRows
 pub mod Runs
-pub mod Pairs
-pub mod ColumnSums
-pub mod Windows
-pub mod Releases
-pub mod Links
 pub mod Unique

@@ -48,7 +48,8 @@ module _ {nexts : List ℕ} {start : ℕ} (safe : NextsSafe nexts) where
           walked = λ hit i columns w. turn hit i columns w (v .walked hit i columns w);
         }
       where
-        turn : (hit : Cell → Bool) (i columns : ℕ) → RowWalk hit i columns start nexts → SizeAt hit i columns size j → SizeAt hit i columns (size + 1) (getD nexts (j - 1) 0)
+        turn : (hit : Cell → Bool) (i columns : ℕ) → RowWalk hit i columns start nexts → SizeAt hit i columns size j
+            → SizeAt hit i columns (size + 1) (getD nexts (j - 1) 0)
         turn hit i columns w s =
             let t = walk-step hit i columns start nexts w (s .passed) j (s .next) h in
             record {
@@ -63,7 +64,8 @@ module _ {nexts : List ℕ} {start : ℕ} (safe : NextsSafe nexts) where
         record {
           few = v .few;
           exact = λ hit i columns w. let s = v .walked hit i columns w in
-              s .counted ∙ ap length (sym (walk-end hit i columns start nexts w (s .passed) (s .inside) (subst (NextMatch hit i columns (s .passed)) e (s .next))));
+              let none = subst (NextMatch hit i columns (s .passed)) e (s .next) in
+              s .counted ∙ ap length (sym (walk-end hit i columns start nexts w (s .passed) (s .inside) none));
         }
 
 -- ---- the first rows

@@ -1,3 +1,2 @@
--- The rows that the tallies walk, and what the tallies are.
+-- What the tallies are.
 pub mod Tallies
-pub mod Columns

@@ -1,4 +1,4 @@
--- M, W and the link total of the matches that walks come to. Assumes nothing.
+-- M and W of the matches that walks come to. Assumes nothing.
 use mathlib.Core.Path.{_≡_}
 use mathlib.Core.Bool.{Bool}
 use mathlib.Core.List.{List}
@@ -6,7 +6,7 @@ use Prim.Native.Nat.{ℕ, _+_, _-_, _*_, _≤_}
 use lib.ListN.{length}
 use Rattle.rules.specs.declared.Cell.{Cell}
 use Rattle.rules.specs.Matches.{rowTo, matchesTo}
-use Rattle.rules.specs.Rooms.{largestRun, pairs}
+use Rattle.rules.specs.Rooms.{largestRun}
 use Rattle.tally.specs.declared.Counts.{Counts}
 use Rattle.matches.specs.Walks.{RowWalk, Described}
 
@@ -28,6 +28,3 @@ pub record Counted (firsts nexts : List ℕ) (b : ℕ) (r : Counts) : Type 0 whe
   pub narrow : r .widest ≤ r .matches
   pub exact : (hit : Cell → Bool) (columns : ℕ) → Described hit columns firsts nexts
       → (r .matches ≡ length (matchesTo hit columns (length firsts))) × (r .widest ≡ largestRun b (matchesTo hit columns (length firsts)) (length firsts))
-
-pub record Linked (firsts nexts : List ℕ) (b r : ℕ) : Type 0 where
-  pub exact : (hit : Cell → Bool) (columns : ℕ) → Described hit columns firsts nexts → r ≡ pairs b (matchesTo hit columns (length firsts))

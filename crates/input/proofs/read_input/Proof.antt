@@ -61,7 +61,8 @@ returns c =
     let l = e .before .before in
     let s = l .before .before .before .before .before in
     stops (s .pre .0) (s .pre .1) (l .loop .inv)
-    (e .before .loop-test .taken) (e .line-end .ensures .0) (e .line-end .ensures .1) (p .take-line .kept .1 .1 .0) (p .take-line .kept .1 .1 .1 .0) (p .take-line .ensures) (c .before .if1 .taken) (c .refuse .ensures)
+    (e .before .loop-test .taken) (e .line-end .ensures .0) (e .line-end .ensures .1) (p .take-line .kept .1 .1 .0) (p .take-line .kept .1 .1 .1 .0)
+    (p .take-line .ensures) (c .before .if1 .taken) (c .refuse .ensures)
 
 loop-less : tie.Need-loop-less Inv-loop μ-loop
 loop-less c =
@@ -70,7 +71,8 @@ loop-less c =
     let l = e .before .before in
     let s = l .before .before .before .before .before in
     let g = goes-on (s .pre .0) (s .pre .1) (l .loop .inv)
-    (e .before .loop-test .taken) (e .line-end .ensures .0) (e .line-end .ensures .1) (p .take-line .kept .1 .1 .0) (p .take-line .kept .1 .1 .1 .0) (p .take-line .ensures) in omega (arith, e .line-end .ensures .1)
+    (e .before .loop-test .taken) (e .line-end .ensures .0) (e .line-end .ensures .1) (p .take-line .kept .1 .1 .0) (p .take-line .kept .1 .1 .1 .0)
+    (p .take-line .ensures) in omega (arith, e .line-end .ensures .1)
 
 loop-again : tie.Need-loop-again Inv-loop μ-loop
 loop-again c =
@@ -79,7 +81,8 @@ loop-again c =
     let l = e .before .before in
     let s = l .before .before .before .before .before in
     reading-next (s .pre .0) (s .pre .1) (l .loop .inv)
-    (e .before .loop-test .taken) (e .line-end .ensures .0) (e .line-end .ensures .1) (p .take-line .kept .1 .1 .0) (p .take-line .kept .1 .1 .1 .0) (p .take-line .ensures) (c .if1 .left)
+    (e .before .loop-test .taken) (e .line-end .ensures .0) (e .line-end .ensures .1) (p .take-line .kept .1 .1 .0) (p .take-line .kept .1 .1 .1 .0)
+    (p .take-line .ensures) (c .if1 .left)
 
 add-refuse : tie.Need-add-refuse Inv-loop μ-loop
 add-refuse c = let l = c .before .before .before in omega (arith, l .loop .inv .lines, l .loop .inv .within)

@@ -53,7 +53,9 @@ run-after c =
     (c .if1 .came)
 
 slot-requires : tie.Need-slot-requires Inv-loop μ-loop
-slot-requires c κs = rolled-62 _ _ _ _ _ (c .before .before .before .before .before .before .before .before .before .pre .1 .0) (run-after (c .before))
+slot-requires c κs =
+    let l = c .before .before .before .before .before in
+    rolled-62 _ _ _ _ _ (l .before .before .before .before .pre .1 .0) (run-after (c .before))
 
 slice-write-out : tie.Need-slice-write-out Inv-loop μ-loop
 slice-write-out c =

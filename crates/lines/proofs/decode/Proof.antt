@@ -61,7 +61,8 @@ loop-again c =
     let j = c .before in
     let n = j .before .before .before in
     let t = n .before .before in
-    decoding-next _ _ _ _ _ _ _ _ (t .loop-test .taken) (omega (arith, j .join .ensures, n .nibble .ensures, j .before .nibble2 .ensures)) (c .wrapping-add-u8 .ensures) (t .before .loop .inv)
+    decoding-next _ _ _ _ _ _ _ _ (t .loop-test .taken) (omega (arith, j .join .ensures, n .nibble .ensures, j .before .nibble2 .ensures))
+    (c .wrapping-add-u8 .ensures) (t .before .loop .inv)
 
 same-length : tie.Need-same-length Inv-loop μ-loop
 same-length c = c .before .loop .inv .long

@@ -64,7 +64,8 @@ loop-again c =
     let n = c .before in
     let f = n .before .before in
     let t = f .before .before .before in
-    looking-next _ _ (t .loop-test .taken) (omega (arith, f .if3 .left, f .before .nibble .ensures)) (omega (arith, c .if4 .left, n .nibble2 .ensures)) (t .before .loop .inv)
+    looking-next _ _ (t .loop-test .taken) (omega (arith, f .if3 .left, f .before .nibble .ensures))
+    (omega (arith, c .if4 .left, n .nibble2 .ensures)) (t .before .loop .inv)
 
 shared-slice-read-result : tie.Need-shared-slice-read-result Inv-loop μ-loop
 shared-slice-read-result c = search needs

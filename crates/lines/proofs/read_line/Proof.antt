@@ -47,7 +47,8 @@ returns-2 c =
     let d = w .before .before .before .before in
     let e = d .before .before in
     let s = e .before .before .before .before in
-    length-wrong _ (s .args .bytes .now) _ _ _ _ (sym (e .before .is-line .ensures) ∙ not-false _ (e .if1 .left)) (s .pre) (d .decode .ensures .1) (d .decode .ensures .0 .0) (d .decode .ensures .0 .1) (w .wide .ensures .0) _ (t .if2 .taken) (c .refused2 .ensures)
+    length-wrong _ (s .args .bytes .now) _ _ _ _ (sym (e .before .is-line .ensures) ∙ not-false _ (e .if1 .left)) (s .pre) (d .decode .ensures .1)
+    (d .decode .ensures .0 .0) (d .decode .ensures .0 .1) (w .wide .ensures .0) _ (t .if2 .taken) (c .refused2 .ensures)
 
 refused-requires-3 : tie.Need-refused-requires-3
 refused-requires-3 c κs = search needs
@@ -63,7 +64,8 @@ returns-3 c =
     let d = w .before .before .before .before in
     let e = d .before .before in
     let s = e .before .before .before .before in
-    check-wrong _ (s .args .bytes .now) _ _ _ _ (sym (e .before .is-line .ensures) ∙ not-false _ (e .if1 .left)) (s .pre) (d .decode .ensures .1) (d .decode .ensures .0 .0) (d .decode .ensures .0 .1) (w .wide .ensures .0) (u .if2 .left) _ (t .if3 .taken) (c .refused3 .ensures)
+    check-wrong _ (s .args .bytes .now) _ _ _ _ (sym (e .before .is-line .ensures) ∙ not-false _ (e .if1 .left)) (s .pre) (d .decode .ensures .1)
+    (d .decode .ensures .0 .0) (d .decode .ensures .0 .1) (w .wide .ensures .0) (u .if2 .left) _ (t .if3 .taken) (c .refused3 .ensures)
 
 slice-read-t10 : tie.Need-slice-read-t10
 slice-read-t10 c = search needs
@@ -79,7 +81,8 @@ returns-4 c =
     let d = w .before .before .before .before in
     let e = d .before .before in
     let s = e .before .before .before .before in
-    is-frame _ (s .args .bytes .now) _ _ _ _ (sym (e .before .is-line .ensures) ∙ not-false _ (e .if1 .left)) (s .pre) (d .decode .ensures .1) (d .decode .ensures .0 .0) (d .decode .ensures .0 .1) (w .wide .ensures .0) (u .if2 .left) (t .if3 .left)
+    is-frame _ (s .args .bytes .now) _ _ _ _ (sym (e .before .is-line .ensures) ∙ not-false _ (e .if1 .left)) (s .pre) (d .decode .ensures .1)
+    (d .decode .ensures .0 .0) (d .decode .ensures .0 .1) (w .wide .ensures .0) (u .if2 .left) (t .if3 .left)
 
 pub read-line-spec : {M : Type 1} → statement M
 read-line-spec =

@@ -66,8 +66,10 @@ returns-3 c =
     let f = b .before .before .before .before in
     let r = f .before .before in
     let a = r .before .before .before .before .args in
-    writes _ (a .out .now) _ _ _ (has-room (a .kind) (a .payload .now) (a .out .now) (r .before .if1 .left) (r .if2 .left)) (omega (arith, line-length (a .kind) (a .payload .now)))
-    (line-stored (a .kind) (a .payload .now) (a .out .now) _ _ _ _ _ _ (r .if2 .left) (omega arith) (k .check .ensures) (f .put-byte .ensures) (b .put-byte2 .ensures) (d .put-bytes .ensures) (e .put-byte3 .ensures))
+    writes _ (a .out .now) _ _ _ (has-room (a .kind) (a .payload .now) (a .out .now) (r .before .if1 .left) (r .if2 .left))
+    (omega (arith, line-length (a .kind) (a .payload .now)))
+    (line-stored (a .kind) (a .payload .now) (a .out .now) _ _ _ _ _ _ (r .if2 .left) (omega arith) (k .check .ensures) (f .put-byte .ensures)
+    (b .put-byte2 .ensures) (d .put-bytes .ensures) (e .put-byte3 .ensures))
 
 pub write-line-spec : {M : Type 1} → statement M
 write-line-spec =

@@ -1,13 +1,13 @@
--- Owners of both sequences, next columns and counts by owner, and the rows of k-mers that are not used set to 0.
+-- Owners of both sequences, next columns and counts by owner, and the rows of k-mers that are not used set to 0. Assumes nothing.
 use mathlib.Core.Path.{_≡_}
 use Prim.Native.Nat.{ℕ}
 use native.Mathlib.Omega.{arith}
 use lib.ListN.{length, replicate, length-replicate}
 use borrow.Author.Needs.{needs}
-use Rattle.matches.proofs.Counting.{all-zeros, owned-upto, tally-upto}
-use Rattle.matches.proofs.Striking.{struck-upto, all-struck, struck-capped}
-use Rattle.matches.proofs.Links.{owned-owns}
-use Rattle.matches.proofs.Totals.{first-columns}
+use Rattle.ownership.proofs.Owns.{owned-owns}
+use Rattle.totals.proofs.Counting.{all-zeros, tally-upto}
+use Rattle.totals.proofs.Striking.{struck-upto, all-struck, struck-capped}
+use Rattle.matches.proofs.Totals.{owned-upto, first-columns}
 use Rattle.matches.proofs.find_matches.Statement.{statement}
 use Rattle.matches.proofs.find_matches.Tie as tie
 
@@ -94,7 +94,8 @@ returns c =
     let own = owned (linked rows) .own-all .ensures in
     let firsts = first-columns (own .0) (own .1) (omega (arith, s .1 .0, room)) (all-zeros 16384) (links .1) (counted .0) in (
       firsts
-          (struck-capped (counted .0) (owned-upto (omega arith) (omega (arith, s .1 .0, links .1 .sums .long, room)) (own .1)) (counted .1 .0) (capped .cap .ensures)),
+          (struck-capped (counted .0) (owned-upto (omega arith) (omega (arith, s .1 .0, links .1 .sums .long, room)) (own .1)) (counted .1 .0)
+          (capped .cap .ensures)),
       links .0,
     )
 
@@ -113,7 +114,8 @@ returns-2 c =
     let own = owned (linked rows) .own-all .ensures in
     let firsts = first-columns (own .0) (own .1) (omega (arith, s .1 .0, room)) (all-zeros 16384) (links .1) (counted .0) in (
       firsts
-          (all-struck (counted .0) (owned-upto (omega arith) (omega (arith, s .1 .0, links .1 .sums .long, room)) (own .1)) (counted .1 .0) (counted .1 .1 .0 (c .if1 .left))),
+          (all-struck (counted .0) (owned-upto (omega arith) (omega (arith, s .1 .0, links .1 .sums .long, room)) (own .1)) (counted .1 .0)
+          (counted .1 .1 .0 (c .if1 .left))),
       links .0,
     )
 

@@ -1,11 +1,11 @@
--- Both ways end with every owner written: by the table where it could be built, and else by the sort, over what `build` had written.
+-- Both ways end with every owner written: by the table where it could be built, and else by the sort, over what `build` had written. Assumes nothing.
 use Prim.Native.Nat.{ℕ}
 use native.Mathlib.Omega.{arith}
 use lib.ListN.{length-replicate}
 use borrow.Author.Needs.{needs}
 use Rattle.order.proofs.Cases.{zero-at}
-use Rattle.owners.proofs.Owns.{owned-over}
-use Rattle.owners.proofs.Tables.{table-start}
+use Rattle.ownership.proofs.Owns.{owned-over}
+use Rattle.hashed.proofs.Tables.{table-start}
 use Rattle.owners.proofs.own_all.Statement.{statement}
 use Rattle.owners.proofs.own_all.Tie as tie
 

@@ -26,7 +26,9 @@ shared-slice-read-if2 : tie.Need-shared-slice-read-if2 Inv-loop μ-loop
 shared-slice-read-if2 c = search needs
 
 returns-2 : tie.Need-returns-2 Inv-loop μ-loop
-returns-2 c = let t = c .before .before .before .before in sym (large-code _ _ (t .loop-test .taken) (c .before .before .if1 .left) (c .if2 .taken) (t .before .loop .inv))
+returns-2 c =
+    let t = c .before .before .before .before in
+    sym (large-code _ _ (t .loop-test .taken) (c .before .before .if1 .left) (c .if2 .taken) (t .before .loop .inv))
 
 add-i : tie.Need-add-i Inv-loop μ-loop
 add-i c = search needs
@@ -35,7 +37,9 @@ loop-less : tie.Need-loop-less Inv-loop μ-loop
 loop-less c = search needs
 
 loop-again : tie.Need-loop-again Inv-loop μ-loop
-loop-again c = let t = c .before .before .before .before in checking-next _ _ (t .loop-test .taken) (c .before .before .if1 .left) (c .if2 .left) (t .before .loop .inv)
+loop-again c =
+    let t = c .before .before .before .before in
+    checking-next _ _ (t .loop-test .taken) (c .before .before .if1 .left) (c .if2 .left) (t .before .loop .inv)
 
 returns-3 : tie.Need-returns-3 Inv-loop μ-loop
 returns-3 c = sym (checking-end _ _ (c .loop-test .left) (c .before .loop .inv))

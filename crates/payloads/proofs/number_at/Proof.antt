@@ -31,7 +31,8 @@ cast-x c = let l = c .before .before in omega (arith, c .shared-slice-known .giv
 add-x-2 : tie.Need-add-x-2 Inv-loop μ-loop
 add-x-2 c =
     let l = c .before .before in
-    let b : getD (l .before .args .bytes .now) (l .before .args .at + l .loop .i) 0 < 256 = omega (arith, c .shared-slice-known .given (l .before .args .at + l .loop .i)) in
+    let b : getD (l .before .args .bytes .now) (l .before .args .at + l .loop .i) 0 < 256 =
+    omega (arith, c .shared-slice-known .given (l .before .args .at + l .loop .i)) in
     omega (arith, gathering-fits _ _ _ _ _ _ (l .before .pre .1) (c .before .loop-test .taken) b (l .loop .inv))
 
 add-i : tie.Need-add-i Inv-loop μ-loop
@@ -43,7 +44,8 @@ loop-less c = search needs
 loop-again : tie.Need-loop-again Inv-loop μ-loop
 loop-again c =
     let l = c .before .before in
-    let b : getD (l .before .args .bytes .now) (l .before .args .at + l .loop .i) 0 < 256 = omega (arith, c .shared-slice-known .given (l .before .args .at + l .loop .i)) in
+    let b : getD (l .before .args .bytes .now) (l .before .args .at + l .loop .i) 0 < 256 =
+    omega (arith, c .shared-slice-known .given (l .before .args .at + l .loop .i)) in
     gathering-next _ _ _ _ _ (c .before .loop-test .taken) b (l .loop .inv)
 
 returns : tie.Need-returns Inv-loop μ-loop

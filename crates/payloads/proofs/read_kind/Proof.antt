@@ -30,18 +30,26 @@ same-length-3 c = search needs
 
 returns-3 : tie.Need-returns-3
 returns-3 c =
-    let r = c .before .before .before .before .before .before .before .before in
-    let a = r .before .before .before .before .args in
-    (size-wrong (a .kind) (a .size) _ _ (r .read-line .ensures .0) (c .before .before .before .before .if1 .left) (c .before .before .if2 .left) (c .if3 .taken), r .read-line .ensures .1)
+    let read = c .before .before .before .before in
+    let r = read .before .before .before .before in
+    let a = r .before .before .before .before .args in (
+      size-wrong (a .kind) (a .size) _ _ (r .read-line .ensures .0) (read .if1 .left) (c .before .before .if2 .left)
+          (c .if3 .taken),
+      r .read-line .ensures .1,
+    )
 
 same-length-4 : tie.Need-same-length-4
 same-length-4 c = search needs
 
 returns-4 : tie.Need-returns-4
 returns-4 c =
-    let r = c .before .before .before .before .before .before .before .before in
-    let a = r .before .before .before .before .args in
-    (all-right (a .kind) (a .size) _ _ (r .read-line .ensures .0) (c .before .before .before .before .if1 .left) (c .before .before .if2 .left) (c .if3 .left), r .read-line .ensures .1)
+    let read = c .before .before .before .before in
+    let r = read .before .before .before .before in
+    let a = r .before .before .before .before .args in (
+      all-right (a .kind) (a .size) _ _ (r .read-line .ensures .0) (read .if1 .left) (c .before .before .if2 .left)
+          (c .if3 .left),
+      r .read-line .ensures .1,
+    )
 
 pub read-kind-spec : {M : Type 1} → statement M
 read-kind-spec =

@@ -7,7 +7,8 @@ use lib.ListN.{length, take}
 use Rattle.rules.specs.Places.{places}
 use Rattle.rules.specs.Codes.{codes}
 use Rattle.rules.proofs.Kmers.{codes-length}
-use Rattle.matches.specs.Columns.{FirstColumns, NextColumns}
+use Rattle.nexts.specs.Nexts.{NextColumns}
+use Rattle.matches.specs.Columns.{FirstColumns}
 use Rattle.prepare.proofs.Matching.{codes-front, places-few, matched}
 use borrow.Author.Needs.{needs}
 use Rattle.prepare.proofs.match_up.Statement.{statement}

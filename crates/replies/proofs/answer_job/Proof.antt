@@ -3,7 +3,8 @@ use mathlib.Core.Path.{_≡_, ap, _∙_}
 use mathlib.Core.List.{List}
 use Prim.Native.Nat.{ℕ}
 use lib.ListN.{length}
-use Rattle.replies.specs.Output.{inFront, refusedOf}
+use Rattle.lines.specs.Writing.{inFront}
+use Rattle.replies.specs.Output.{refusedOf}
 use Rattle.replies.proofs.Answering.{refused-output, refused-fits, listing-output, listing-safe}
 use borrow.Author.Needs.{needs}
 use Rattle.replies.proofs.answer_job.Statement.{statement}

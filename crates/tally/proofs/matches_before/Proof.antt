@@ -48,8 +48,11 @@ loop-again c =
     let l = c .before .before .before .before in
     let s = l .before .before .before in
     let a = s .args in
-    let size = subst (λ (n : ℕ). RowSized (a .nexts .now) n (c .row-size .result)) (c .before .wide .ensures .0) (c .row-size .ensures) in
-    (omega arith, before-next (a .firsts .now) (a .nexts .now) (s .pre .0) (l .loop .p) (l .loop .matches) (c .row-size .result) (omega arith) (l .loop .inv .1) size)
+    let size = subst (λ (n : ℕ). RowSized (a .nexts .now) n (c .row-size .result)) (c .before .wide .ensures .0) (c .row-size .ensures) in (
+      omega arith,
+      before-next (a .firsts .now) (a .nexts .now) (s .pre .0) (l .loop .p) (l .loop .matches) (c .row-size .result) (omega arith)
+          (l .loop .inv .1) size,
+    )
 
 returns : tie.Need-returns Inv-loop μ-loop
 returns c =

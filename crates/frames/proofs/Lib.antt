@@ -1,4 +1,0 @@
-pub mod Writers
-pub mod Readers
-pub mod Jobs
-pub mod RoundTrip

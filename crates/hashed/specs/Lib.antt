@@ -1,0 +1,2 @@
+-- The table, as its functions hand it on.
+pub mod Table

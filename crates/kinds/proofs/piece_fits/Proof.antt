@@ -1,0 +1,15 @@
+-- The tests are the definition's, one for one. Assumes nothing.
+use Rattle.payloads.specs.Pieces.{pieceFits, codesFit}
+use borrow.Author.Needs.{needs}
+use Rattle.kinds.proofs.piece_fits.Statement.{statement}
+use Rattle.kinds.proofs.piece_fits.Tie as tie
+
+are-codes-requires : tie.Need-are-codes-requires
+are-codes-requires c κs = search needs
+
+returns : tie.Need-returns
+unfolding pieceFits codesFit
+returns c = rw (c .are-codes .ensures)
+
+pub piece-fits-spec : {M : Type 1} → statement M
+piece-fits-spec = tie.close (tie.spec are-codes-requires returns)

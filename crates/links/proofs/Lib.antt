@@ -1,0 +1,6 @@
+pub mod MatchedSoFar
+pub mod Pairs
+pub mod ColumnSums
+pub mod Releases
+pub mod Links
+pub mod Unique

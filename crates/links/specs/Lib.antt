@@ -1,0 +1,3 @@
+-- The counts of columns that the link total is summed from, and what it is.
+pub mod Columns
+pub mod Totals

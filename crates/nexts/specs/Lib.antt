@@ -1,0 +1,2 @@
+-- What a next column is.
+pub mod Nexts

@@ -1,0 +1,2 @@
+-- Where a code would stand among ordered places.
+pub mod Lower

@@ -1,4 +1,0 @@
-pub mod Hits
-pub mod Owns
-pub mod Tables
-pub mod Lowers

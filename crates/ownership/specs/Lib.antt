@@ -1,0 +1,2 @@
+-- What an owner is, and owners written in order.
+pub mod Owners

@@ -1,0 +1,86 @@
+-- As long as no half was 0, what is ahead has the answer; a low half that is 0 must be the last. Assumes nothing.
+use mathlib.Core.Path.{sym}
+use Prim.Native.Nat.{_-_, _<_}
+use native.Mathlib.Omega.{arith}
+use lib.ListN.{length, getD}
+use Rattle.pieces.proofs.Unpacking.{piece-short, piece-long, Halving, halving-start, halving-next, high-zero, low-zero, halving-end}
+use borrow.Author.Needs.{needs}
+use Rattle.pieces.proofs.is_piece.Statement.{statement}
+use Rattle.pieces.proofs.is_piece.Tie as tie
+
+abbrev Inv-loop : tie.InvT-loop
+Inv-loop payload i₀ i = Halving payload i
+
+abbrev μ-loop : tie.MeasureT-loop
+μ-loop payload i₀ i = length payload - i
+
+returns : tie.Need-returns Inv-loop μ-loop
+returns c = sym (piece-short _ (c .if1 .taken))
+
+returns-2 : tie.Need-returns-2 Inv-loop μ-loop
+returns-2 c = sym (piece-long _ (c .before .if1 .left) (c .if2 .taken))
+
+loop-holds : tie.Need-loop-holds Inv-loop μ-loop
+loop-holds c = halving-start _ (c .before .if1 .left) (c .if2 .left)
+
+shared-slice-read-split : tie.Need-shared-slice-read-split Inv-loop μ-loop
+shared-slice-read-split c = search needs
+
+split-requires : tie.Need-split-requires Inv-loop μ-loop
+split-requires c κs = search needs
+
+add-i : tie.Need-add-i Inv-loop μ-loop
+add-i c = search needs
+
+returns-3 : tie.Need-returns-3 Inv-loop μ-loop
+returns-3 c =
+    let h = c .before .before in
+    let t = h .before .before in
+    let l = t .before in
+    let xs = l .before .before .before .before .args .payload .now in
+    let small : getD xs (l .loop .i) 0 < 256 = omega (arith, h .before .shared-slice-known2 .given (l .loop .i)) in
+    sym (high-zero xs (l .loop .i) _ _ (t .loop-test .taken) small (h .split .ensures .0) (h .split .ensures .1) (l .loop .inv) (c .if3 .taken))
+
+returns-4 : tie.Need-returns-4 Inv-loop μ-loop
+returns-4 c =
+    let h = c .before .before .before .before in
+    let t = h .before .before in
+    let l = t .before in
+    let xs = l .before .before .before .before .args .payload .now in
+    let small : getD xs (l .loop .i) 0 < 256 = omega (arith, h .before .shared-slice-known2 .given (l .loop .i)) in
+    sym (low-zero xs (l .loop .i) _ _ (t .loop-test .taken) small (h .split .ensures .0) (h .split .ensures .1) (l .loop .inv)
+    (c .before .before .if3 .left) (c .if4 .taken))
+
+loop-less : tie.Need-loop-less Inv-loop μ-loop
+loop-less c = search needs
+
+loop-again : tie.Need-loop-again Inv-loop μ-loop
+loop-again c =
+    let h = c .before .before .before .before in
+    let t = h .before .before in
+    let l = t .before in
+    let xs = l .before .before .before .before .args .payload .now in
+    let small : getD xs (l .loop .i) 0 < 256 = omega (arith, h .before .shared-slice-known2 .given (l .loop .i)) in
+    halving-next xs (l .loop .i) _ _ (t .loop-test .taken) small (h .split .ensures .0) (h .split .ensures .1) (l .loop .inv)
+    (c .before .before .if3 .left) (c .if4 .left)
+
+returns-5 : tie.Need-returns-5 Inv-loop μ-loop
+returns-5 c = sym (halving-end _ _ (c .loop-test .left) (c .before .loop .inv))
+
+pub is-piece-spec : {M : Type 1} → statement M
+is-piece-spec =
+    tie.close
+    (tie.spec
+    Inv-loop
+    μ-loop
+    returns
+    returns-2
+    loop-holds
+    shared-slice-read-split
+    split-requires
+    add-i
+    returns-3
+    returns-4
+    loop-less
+    loop-again
+    returns-5)

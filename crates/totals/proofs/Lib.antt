@@ -1,0 +1,3 @@
+pub mod Counting
+pub mod Striking
+pub mod Examples

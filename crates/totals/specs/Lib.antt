@@ -1,0 +1,2 @@
+-- What each step of counting and capping promises.
+pub mod Steps

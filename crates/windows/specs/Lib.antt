@@ -1,0 +1,2 @@
+-- The window of a column.
+pub mod Windows

@@ -1,0 +1,77 @@
+-- Codes that are no piece refuse; else the line's writer answers for the packed codes. Assumes nothing.
+use mathlib.Core.Path.{_≡_, sym, ap, _∙_}
+use Prim.Native.Nat.{_+_, _≤_}
+use native.Mathlib.Omega.{arith}
+use lib.ListN.{length, take, replicate}
+use Rattle.payloads.specs.Pieces.{codeBytes}
+use Rattle.kinds.specs.Kinds.{pieceLine}
+use Rattle.writers.proofs.Writers.{not-fitting, fitting}
+use Rattle.payloads.proofs.Pieces.{PieceFits, piece-parts, packed-front, packed-length}
+use borrow.Author.Needs.{needs}
+use Rattle.writers.proofs.write_piece.Statement.{statement}
+use Rattle.writers.proofs.write_piece.Tie as tie
+
+-- the codes are a piece
+fits : (c : tie.Then1) → PieceFits (c .before .before .before .before .args .sequence) (c .before .before .before .before .args .codes .now)
+fits c = piece-parts _ _ (sym (c .before .piece-fits .ensures) ∙ c .if1 .taken)
+
+few : (c : tie.Then1) → length (codeBytes (c .before .before .before .before .args .codes .now)) ≤ 64
+few c = omega (arith, fits c .few, packed-length (c .before .before .before .before .args .codes .now) .1)
+
+-- and stand packed in front of the payload
+front : (c : tie.After-pack) → take (c .pack .result) (c .pack .last .1 .0) ≡ codeBytes (c .before .before .before .before .before .before .args .codes .now)
+front c = packed-front _ (replicate 64 0) _ _ (c .pack .ensures .0) (c .pack .ensures .1) (few (c .before .before))
+
+piece-fits-requires : tie.Need-piece-fits-requires
+piece-fits-requires c κs = search needs
+
+slice-aggregate-pack : tie.Need-slice-aggregate-pack
+slice-aggregate-pack c = search needs
+
+pack-requires : tie.Need-pack-requires
+pack-requires c κs = let f = fits (c .before) in (f .are, omega (arith, f .few))
+
+add-write-line : tie.Need-add-write-line
+add-write-line c = omega (arith, fits (c .before .before .before) .most)
+
+array-share-prefix-payload : tie.Need-array-share-prefix-payload
+array-share-prefix-payload c = omega (arith, c .before .pack .ensures .0, c .before .pack .kept, few (c .before .before .before))
+
+slice-aggregate-write-line : tie.Need-slice-aggregate-write-line
+slice-aggregate-write-line c = c .before .before .pack .ensures .0 ∙ ap length (sym (front (c .before .before)))
+
+write-line-requires : tie.Need-write-line-requires
+write-line-requires c κs = search needs
+
+same-length : tie.Need-same-length
+same-length c = search needs
+
+returns : tie.Need-returns
+unfolding pieceLine
+returns c =
+    let w = c .before .before in
+    let p = w .before .before .before .before in
+    let t = p .before .before in
+    let a = t .before .before .before .before .args in
+    fitting (1 + a .sequence) (codeBytes (a .codes .now)) _ (a .out .now) _ _ _ (sym (t .before .piece-fits .ensures) ∙ t .if1 .taken) (front p)
+    (few t) (w .write-line .ensures .0) (w .write-line .ensures .1)
+
+returns-2 : tie.Need-returns-2
+returns-2 c =
+    let f = c .before in
+    not-fitting _ (f .before .before .before .args .out .now) _ (sym (f .piece-fits .ensures) ∙ c .if1 .left)
+
+pub write-piece-spec : {M : Type 1} → statement M
+write-piece-spec =
+    tie.close
+    (tie.spec
+    piece-fits-requires
+    slice-aggregate-pack
+    pack-requires
+    add-write-line
+    array-share-prefix-payload
+    slice-aggregate-write-line
+    write-line-requires
+    same-length
+    returns
+    returns-2)
