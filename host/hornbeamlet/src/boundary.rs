@@ -1,4 +1,4 @@
-//! The three calls over the C boundary.
+//! The calls over the C boundary.
 //!
 //! Each slice crosses as a pointer and a length. A Rust slice's pointer is
 //! never null and always aligned, also where it is empty; shared and exclusive
@@ -10,50 +10,90 @@ use crate::{Answer, Library, Settings};
 /// The answer as it crosses the boundary.
 type Numbers = [u64; 7];
 
-extern "C" {
-    fn hornbeamlet_need(
-        k: u32,
-        b: u32,
-        a: u32,
-        m: u32,
-        strand: u32,
-        first: *const u8,
-        first_len: usize,
-        second: *const u8,
-        second_len: usize,
-    ) -> u64;
+/// Makes of each function of the library a safe one of the same name. The list
+/// has to be that of `include/hornbeamlet.h`, in Rust's types:
+///
+/// - `Settings` for the numbers of the settings,
+/// - `&[u8]`, `&mut [u32]` and their like for a pointer and a length,
+/// - `&mut [u64; 7]` and its like for a pointer to just so many numbers,
+/// - `u32` and its like for a number.
+macro_rules! calls {
+    ($(fn $call:ident($($list:tt)*) $(-> $reply:ty)?;)*) => {
+        $(calls!(@next {$call [$($reply)?] [] []} $($list)*,);)*
+    };
+
+    // What is next in the list: as it is taken, and what crosses for it.
+    (@next $made:tt $name:ident: Settings, $($list:tt)*) => {
+        calls!(@add $made
+            {Settings { k, b, a, m, strand }: Settings}
+            {k => u32, b => u32, a => u32, m => u32, strand => u32}
+            $($list)*);
+    };
+    (@next $made:tt $name:ident: &[$of:ty], $($list:tt)*) => {
+        calls!(@add $made
+            {$name: &[$of]}
+            {$name.as_ptr() => *const $of, $name.len() => usize}
+            $($list)*);
+    };
+    (@next $made:tt $name:ident: &mut [$of:ty], $($list:tt)*) => {
+        calls!(@add $made
+            {$name: &mut [$of]}
+            {$name.as_mut_ptr() => *mut $of, $name.len() => usize}
+            $($list)*);
+    };
+    (@next $made:tt $name:ident: &mut [$of:ty; $count:expr], $($list:tt)*) => {
+        calls!(@add $made
+            {$name: &mut [$of; $count]}
+            {$name.as_mut_ptr() => *mut $of}
+            $($list)*);
+    };
+    (@next $made:tt $name:ident: $number:ident, $($list:tt)*) => {
+        calls!(@add $made
+            {$name: $number}
+            {$name => $number}
+            $($list)*);
+    };
+    (@add {$call:ident $reply:tt [$($taken:tt)*] [$($crosses:tt)*]}
+        {$($take:tt)*} {$($cross:tt)*} $($list:tt)*) => {
+        calls!(@next
+            {$call $reply [$($taken)* $($take)*,] [$($crosses)* $($cross)*,]}
+            $($list)*);
+    };
+
+    // The list is at its end, or at the comma after its last.
+    (@next {$call:ident [$($reply:ty)?] [$($taken:tt)*] [$($value:expr => $declared:ty,)*]}
+        $(,)?) => {
+        // It takes as many as the header says.
+        #[allow(clippy::too_many_arguments)]
+        fn $call($($taken)*) $(-> $reply)? {
+            extern "C" {
+                fn $call($(_: $declared),*) $(-> $reply)?;
+            }
+            // SAFETY: see the head of this file; the list is the header's.
+            unsafe { $call($($value),*) }
+        }
+    };
+}
+
+calls! {
+    fn hornbeamlet_need(settings: Settings, first: &[u8], second: &[u8]) -> u64;
 
     fn hornbeamlet_compare(
-        k: u32,
-        b: u32,
-        a: u32,
-        m: u32,
-        strand: u32,
-        first: *const u8,
-        first_len: usize,
-        second: *const u8,
-        second_len: usize,
-        work: *mut u32,
-        work_len: usize,
-        list: *mut u32,
-        list_len: usize,
-        answer: *mut u64,
+        settings: Settings,
+        first: &[u8],
+        second: &[u8],
+        work: &mut [u32],
+        list: &mut [u32],
+        answer: &mut [u64; 7],
     );
 
     fn hornbeamlet_stopped(
-        k: u32,
-        b: u32,
-        a: u32,
-        m: u32,
-        strand: u32,
-        first: *const u8,
-        first_len: usize,
-        second: *const u8,
-        second_len: usize,
-        work: *mut u32,
-        work_len: usize,
+        settings: Settings,
+        first: &[u8],
+        second: &[u8],
+        work: &mut [u32],
         row: u32,
-        answer: *mut u64,
+        answer: &mut [u64; 7],
     );
 }
 
@@ -62,21 +102,7 @@ impl Library {
     /// larger of the two, or [`crate::REFUSED`] plus the number of a refusal,
     /// 1 to 6 or 9.
     pub fn need(&self, settings: Settings, first: &[u8], second: &[u8]) -> u64 {
-        let Settings { k, b, a, m, strand } = settings;
-        // SAFETY: see the head of this file; the sequences are only read.
-        unsafe {
-            hornbeamlet_need(
-                k,
-                b,
-                a,
-                m,
-                strand,
-                first.as_ptr(),
-                first.len(),
-                second.as_ptr(),
-                second.len(),
-            )
-        }
+        hornbeamlet_need(settings, first, second)
     }
 
     /// The two sequences compared: entries in the list room, the forward ones
@@ -89,28 +115,7 @@ impl Library {
         work: &mut [u32],
         list: &mut [u32],
     ) -> Answer {
-        let Settings { k, b, a, m, strand } = settings;
-        let mut numbers = Numbers::default();
-        // SAFETY: see the head of this file; the answer has its seven numbers.
-        unsafe {
-            hornbeamlet_compare(
-                k,
-                b,
-                a,
-                m,
-                strand,
-                first.as_ptr(),
-                first.len(),
-                second.as_ptr(),
-                second.len(),
-                work.as_mut_ptr(),
-                work.len(),
-                list.as_mut_ptr(),
-                list.len(),
-                numbers.as_mut_ptr(),
-            );
-        }
-        answer(numbers)
+        answered(|answer| hornbeamlet_compare(settings, first, second, work, list, answer))
     }
 
     /// The stopped sweep of one strand: records of the row and the b rows before
@@ -124,31 +129,15 @@ impl Library {
         work: &mut [u32],
         row: u32,
     ) -> Answer {
-        let Settings { k, b, a, m, strand } = settings;
-        let mut numbers = Numbers::default();
-        // SAFETY: see the head of this file; the answer has its seven numbers.
-        unsafe {
-            hornbeamlet_stopped(
-                k,
-                b,
-                a,
-                m,
-                strand,
-                first.as_ptr(),
-                first.len(),
-                second.as_ptr(),
-                second.len(),
-                work.as_mut_ptr(),
-                work.len(),
-                row,
-                numbers.as_mut_ptr(),
-            );
-        }
-        answer(numbers)
+        answered(|answer| hornbeamlet_stopped(settings, first, second, work, row, answer))
     }
 }
 
-fn answer([number, sequence, detail, listed, matches, widest, links]: Numbers) -> Answer {
+/// What a call answers that writes its answer where it is told to.
+fn answered(call: impl FnOnce(&mut Numbers)) -> Answer {
+    let mut numbers = Numbers::default();
+    call(&mut numbers);
+    let [number, sequence, detail, listed, matches, widest, links] = numbers;
     Answer {
         number,
         sequence,
