@@ -8,6 +8,7 @@ use native.Mathlib.Omega.{arith}
 use lib.ListN.{length, take, replicate}
 use lib.Seq.{take-at}
 use Rattle.rules.specs.declared.Settings.{Settings}
+use Rattle.rules.specs.Entered.{forward, both}
 use Rattle.rules.specs.declared.Cell.{Cell}
 use Rattle.rules.specs.declared.Record.{Record}
 use Rattle.rules.specs.Lists.{laid, thenZeros, zeros}
@@ -16,13 +17,13 @@ use Rattle.rules.specs.Places.{places}
 use Rattle.rules.specs.Listing.{listing, ends, Listed, Ordered}
 use Rattle.rules.specs.Rooms.{workHolds, listHolds, recordNumbers, held, Held, matchTotal, workNeed, linkTotal}
 use Rattle.rules.specs.Strands.{onStrand, strandEntries, entries, matchSum, largerNeed, linkSum}
-use Rattle.rules.specs.Answers.{Outcome, refusal, done, zeroed, checked, comparing, compared, stopping, stoppedSweep, stopped, replied}
+use Rattle.rules.specs.Answers.{Outcome, left, refusal, done, zeroed, checked, comparing, compared, stopping, stoppedSweep, stopped, replied}
 use Rattle.rules.proofs.Tests.{Three, below, equal, above, three}
 use Rattle.rules.proofs.ListLaws.{laid-append}
-use Rattle.rules.proofs.Strands.{forward, both, entries-size, need-forward, need-both, larger-bound, link-sum-bound, forward-first}
-use Rattle.rules.proofs.Outcomes.{compares-7, compares-8, compares-0, stops-7, stops-19, stops-0}
+use Rattle.rules.proofs.Strands.{entries-size, need-forward, need-both, larger-bound, link-sum-bound, forward-first}
+use Rattle.rules.proofs.Outcomes.{finishes-8, finishes-0, compares-7, compares-on, stops-7, stops-19, stops-0}
 use Rattle.rules.proofs.Theorems.{listing-exact, listing-in-order, held-exact, held-in-order}
-use Rattle.prepare.proofs.Checking.{no-room-number}
+use Rattle.refusals.proofs.Checking.{no-room-number}
 use Rattle.compare.proofs.Entries.{compare-refused, stop-refused, after-accepted}
 
 number : {x y : Outcome} → x ≡ y → x .answer .number ≡ y .answer .number
@@ -45,11 +46,13 @@ module _ (c : Settings) (s t work list : List ℕ) where
 
   -- every job is one of these four
   pub data Compared : Type 0 where
-    refused : (checked c s t .number ≡ 0 → ⊥) → compared c s t work list ≡ record { answer = checked c s t; work = work; list = list } → Compared
+    refused : (checked c s t .number ≡ 0 → ⊥) → compared c s t work list ≡ left (checked c s t) work list → Compared
     no-work-room : checked c s t .number ≡ 0 → workHolds work < W → compared c s t work list ≡ zeroed 7 W work list → Compared
     no-list-room : checked c s t .number ≡ 0 → W ≤ workHolds work → listHolds list < count → compared c s t work list ≡ zeroed 8 count work list → Compared
     listed : checked c s t .number ≡ 0 → W ≤ workHolds work → count ≤ listHolds list
-        → compared c s t work list ≡ record { answer = done count (matchSum c s t) W (linkSum c s t); work = zeros work; list = thenZeros (laid (λ entry. entry) (entries c s t)) (length list) } → Compared
+        → compared c s t work list
+        ≡ left (done count (matchSum c s t) W (linkSum c s t)) (zeros work) (thenZeros (laid (λ entry. entry) (entries c s t)) (length list))
+        → Compared
 
   -- an accepted job goes by its entries and tallies
   rest : checked c s t .number ≡ 0 → compared c s t work list ≡ comparing (entries c s t) (matchSum c s t) W (linkSum c s t) work list
@@ -57,9 +60,11 @@ module _ (c : Settings) (s t work list : List ℕ) where
   rest z = after-accepted c s t work list _ z
 
   with-work : checked c s t .number ≡ 0 → W ≤ workHolds work → Three (listHolds list) count → Compared
-  with-work z h (below g) = no-list-room z h g (rest z ∙ compares-8 _ _ _ _ work list h g)
-  with-work z h (equal g) = let l : count ≤ listHolds list = omega arith in listed z h l (rest z ∙ compares-0 _ _ _ _ work list h l)
-  with-work z h (above g) = let l : count ≤ listHolds list = omega arith in listed z h l (rest z ∙ compares-0 _ _ _ _ work list h l)
+  with-work z h (below g) = no-list-room z h g (rest z ∙ compares-on _ _ _ _ work list h ∙ finishes-8 _ _ _ _ work list g)
+  with-work z h (equal g) =
+      let l : count ≤ listHolds list = omega arith in listed z h l (rest z ∙ compares-on _ _ _ _ work list h ∙ finishes-0 _ _ _ _ work list l)
+  with-work z h (above g) =
+      let l : count ≤ listHolds list = omega arith in listed z h l (rest z ∙ compares-on _ _ _ _ work list h ∙ finishes-0 _ _ _ _ work list l)
 
   accepted-case : checked c s t .number ≡ 0 → Three (workHolds work) W → Compared
   accepted-case z (below h) = no-work-room z h (rest z ∙ compares-7 _ _ _ _ work list h)
@@ -69,7 +74,7 @@ module _ (c : Settings) (s t work list : List ℕ) where
   case-of : Three (checked c s t .number) 0 → Compared
   case-of (below h) = absurd (omega arith)
   case-of (equal z) = accepted-case z (three (workHolds work) W)
-  case-of (above h) = refused (λ z. omega arith) (sym (compare-refused c s t work list (λ z. omega arith)))
+  case-of (above h) = refused (λ z. omega arith) (compare-refused c s t work list (λ z. omega arith))
 
   -- DEMAND 1. Every setting, sequence and room gets one of the four answers, and each says when it is given and what every number of the rooms is
   pub demand-1 : Compared
@@ -79,7 +84,8 @@ module _ (c : Settings) (s t work list : List ℕ) where
   -- exactly the closed matches whose spans are at least m, each with the greatest weight of any chain that ends there and the start the tie rule fixes,
   -- once, by end row, then end column
   pub record ListsStrand (strand : ℕ) : Type 0 where
-    pub exactly : (y p : Cell) (w : ℕ) → List·Memᴰ (record { cell = y; weight = w; start = p }) (listing c s (onStrand strand t)) ↔ Listed c s (onStrand strand t) y p w
+    pub exactly : (y p : Cell) (w : ℕ)
+        → List·Memᴰ (record { cell = y; weight = w; start = p }) (listing c s (onStrand strand t)) ↔ Listed c s (onStrand strand t) y p w
     pub in-order : Ordered (map (λ (x : Record). ends (c .k) (x .cell)) (listing c s (onStrand strand t)))
 
   pub record Lists : Type 0 where
@@ -152,8 +158,11 @@ forward-part k b a m s t work list work₁ list₁ e f =
     let two = strandEntries (both k b a m) s t 1 in
     let size = entries-size (forward k b a m) s t in
     let front = laid (λ entry. entry) one in
-    let whole : laid (λ entry. entry) (entries (both k b a m) s t) ≡ front ++ laid (λ entry. entry) two = ap (laid (λ entry. entry)) (forward-first k b a m s t) ∙ laid-append (λ (entry : List ℕ). entry) one two in
-    ap (take (6 * length one)) (demand-2 (both k b a m) s t work₁ list₁ f .written ∙ ap (λ (l : List ℕ). l ++ replicate (length list₁ - length (laid (λ entry. entry) (entries (both k b a m) s t))) 0) whole ∙ append-assoc front (laid (λ entry. entry) two) _)
+    let whole : laid (λ entry. entry) (entries (both k b a m) s t) ≡ front ++ laid (λ entry. entry) two =
+    ap (laid (λ entry. entry)) (forward-first k b a m s t) ∙ laid-append (λ (entry : List ℕ). entry) one two in
+    let rest = replicate {A = ℕ} (length list₁ - length (laid (λ entry. entry) (entries (both k b a m) s t))) 0 in
+    let written = demand-2 (both k b a m) s t work₁ list₁ f .written in
+    ap (take (6 * length one)) (written ∙ ap (λ (l : List ℕ). l ++ rest) whole ∙ append-assoc front (laid (λ entry. entry) two) rest)
     ∙ take-at front _ (6 * length one) size
     ∙ sym (ap (take (6 * length one)) (demand-2 (forward k b a m) s t work list e .written) ∙ take-at front _ (6 * length one) size)
 
@@ -166,18 +175,18 @@ module _ (c : Settings) (s t work : List ℕ) (row : ℕ) where
 
   -- every stopped sweep is one of these four
   pub data Stopped : Type 0 where
-    refused-stop : (checked c s t .number ≡ 0 → ⊥) → stopped c s t work row ≡ record { answer = checked c s t; work = work; list = [] } → Stopped
+    refused-stop : (checked c s t .number ≡ 0 → ⊥) → stopped c s t work row ≡ left (checked c s t) work [] → Stopped
     no-room : checked c s t .number ≡ 0 → workHolds work < workNeed c s u → stopped c s t work row ≡ zeroed 7 (workNeed c s u) work [] → Stopped
-    no-row : checked c s t .number ≡ 0 → workNeed c s u ≤ workHolds work → places (c .k) s < row → stopped c s t work row ≡ zeroed 19 (places (c .k) s) work [] → Stopped
+    no-row : checked c s t .number ≡ 0 → workNeed c s u ≤ workHolds work → places (c .k) s < row
+        → stopped c s t work row ≡ zeroed 19 (places (c .k) s) work [] → Stopped
     holds : checked c s t .number ≡ 0 → workNeed c s u ≤ workHolds work → row ≤ places (c .k) s
         → stopped c s t work row
-        ≡ record {
-          answer = done (length (held c s u row)) (matchTotal c s u) (workNeed c s u) (linkTotal c s u);
-          work = thenZeros (laid recordNumbers (held c s u row)) (length work);
-          list = [];
-        } → Stopped
+        ≡ left (done (length (held c s u row)) (matchTotal c s u) (workNeed c s u) (linkTotal c s u))
+        (thenZeros (laid recordNumbers (held c s u row)) (length work)) []
+        → Stopped
 
-  rest-stop : checked c s t .number ≡ 0 → stopped c s t work row ≡ stopping (held c s u row) (matchTotal c s u) (workNeed c s u) (linkTotal c s u) (places (c .k) s) work row
+  rest-stop : checked c s t .number ≡ 0
+      → stopped c s t work row ≡ stopping (held c s u row) (matchTotal c s u) (workNeed c s u) (linkTotal c s u) (places (c .k) s) work row
   unfolding stopped stoppedSweep
   rest-stop z = after-accepted c s t work [] _ z
 
@@ -194,7 +203,7 @@ module _ (c : Settings) (s t work : List ℕ) (row : ℕ) where
   stop-of : Three (checked c s t .number) 0 → Stopped
   stop-of (below h) = absurd (omega arith)
   stop-of (equal z) = accepted-stop z (three (workHolds work) (workNeed c s u))
-  stop-of (above h) = refused-stop (λ z. omega arith) (sym (stop-refused c s t work row (λ z. omega arith)))
+  stop-of (above h) = refused-stop (λ z. omega arith) (stop-refused c s t work row (λ z. omega arith))
 
   -- DEMAND 1, of the stopped sweep
   pub demand-1-stopped : Stopped
@@ -221,9 +230,8 @@ module _ (c : Settings) (s t work : List ℕ) (row : ℕ) where
 
 -- ---- any two results that a contract allows are equal
 
-pub one-outcome : (o x y : Outcome) → x .answer ≡ o .answer → x .work ≡ o .work → x .list ≡ o .list → y .answer ≡ o .answer → y .work ≡ o .work → y .list ≡ o .list → x ≡ y
-one-outcome o x y a w l a′ w′ l′ =
-    λ i. record { answer = (a ∙ sym a′) i; work = (w ∙ sym w′) i; list = (l ∙ sym l′) i }
+pub one-outcome : (o x y : Outcome) → x ≡ o → y ≡ o → x ≡ y
+one-outcome o x y e f = e ∙ sym f
 
 pub one-need : (c : Settings) (s t : List ℕ) (x y : ℕ) → x ≡ replied c s t → y ≡ replied c s t → x ≡ y
 one-need c s t x y e f = e ∙ sym f

@@ -8,10 +8,10 @@ use borrow.Author.Tests.{lt-ltb, lt-leb, le-leb, eqb-false, eq-eqb, ne-eqb}
 use lib.Dec.{eqb, leb}
 use lib.ListN.{length, getD, take, drop, length-take, length-append}
 use lib.Seq.{take-at}
-use Rattle.lines.specs.declared.Frame.{Frame}
-use Rattle.lines.specs.Digits.{isLine, bytesIn}
+use Rattle.decoding.specs.declared.Frame.{Frame}
+use Rattle.decoding.specs.Digits.{isLine, bytesIn}
 use Rattle.lines.specs.Writing.{byteSum, inFront}
-use Rattle.lines.specs.Reading.{refusedFrame, frameFrom, frameIn}
+use Rattle.decoding.specs.Reading.{refusedFrame, frameFrom, frameIn}
 use Rattle.kinds.specs.Kinds.{refusedFits, refusedLine}
 use Rattle.payloads.specs.Pieces.{codesIn}
 use Rattle.pieces.specs.Letters.{isPiece, pieceNumber}
@@ -20,7 +20,7 @@ use Rattle.input.specs.Lines.{addTo, linesOf}
 use Rattle.turns.specs.Turns.{Progress, knownKind, inTurn, frameNumber, payloadIn, jobSize, sizeNumber, payloadNumber, lineNumber, after}
 use Rattle.input.specs.Grammar.{Outcome, nothingYet, refusedInput, stopped, finished, readLines, inputOf}
 use Rattle.input.proofs.Cutting.{cut}
-use Rattle.replies.specs.Output.{jobOutput}
+use Rattle.output.specs.Output.{jobOutput}
 use Rattle.exchange.specs.Whole.{inputRefusal, outputOf, outputLength, outputLeft}
 
 -- one of two small numbers
@@ -39,7 +39,8 @@ frame-small line =
     either-frame (isLine line) (frameFrom bytes) (refusedFrame 20)
     (either-frame (eqb (getD bytes 1 0 + 3) (length bytes))
     (cond (eqb (byteSum bytes % 256) 0) (record { number = 0; kind = getD bytes 0 0; size = getD bytes 1 0 }) (refusedFrame 22)) (refusedFrame 21)
-    (either-frame (eqb (byteSum bytes % 256) 0) (record { number = 0; kind = getD bytes 0 0; size = getD bytes 1 0 }) (refusedFrame 22) (omega arith) (omega arith))
+    (either-frame (eqb (byteSum bytes % 256) 0) (record { number = 0; kind = getD bytes 0 0; size = getD bytes 1 0 }) (refusedFrame 22)
+    (omega arith) (omega arith))
     (omega arith))
     (omega arith)
 
@@ -94,7 +95,12 @@ known-end : (p : Progress) (count most : ℕ) → suc count ≤ most → Known (
 unfolding finished
 known-end p count most h = go (eqb (p .turn) 3)
   where
-    go : (t : Bool) → Known (cond t (record { answer = record { number = 0; line = 0; settings = p .settings; first = length (p .first); second = length (p .second) }; first = p .first; second = p .second }) (stopped 24 (suc count) p)) most
+    go : (t : Bool) → Known (cond t
+        (record {
+          answer = record { number = 0; line = 0; settings = p .settings; first = length (p .first); second = length (p .second) };
+          first = p .first;
+          second = p .second;
+        }) (stopped 24 (suc count) p)) most
     go true = record { number = omega arith; line = omega arith; first = λ _. refl; second = λ _. refl }
     go false = known-stop 24 (suc count) most p (omega arith) (λ z. omega arith) h
 
@@ -103,7 +109,8 @@ unfolding readLines
 known p count most [] h = known-end p count most (omega arith)
 known p count most (l ∷ ls) h = go (eqb (lineNumber p l) 0) refl (known (after p l) (suc count) most ls (omega arith))
   where
-    go : (t : Bool) → eqb (lineNumber p l) 0 ≡ t → Known (readLines (after p l) (suc count) ls) most → Known (cond t (readLines (after p l) (suc count) ls) (stopped (lineNumber p l) (suc count) p)) most
+    go : (t : Bool) → eqb (lineNumber p l) 0 ≡ t → Known (readLines (after p l) (suc count) ls) most
+        → Known (cond t (readLines (after p l) (suc count) ls) (stopped (lineNumber p l) (suc count) p)) most
     go true e ih = ih
     go false e ih = known-stop (lineNumber p l) (suc count) most p (number-small p l) (eqb-false (lineNumber p l) 0 e) (omega arith)
 
@@ -181,9 +188,11 @@ module _ (input output left : List ℕ) (n : ℕ) where
 
   pub refused-lines : (r : InputRead) → r ≡ inputOf input .answer → (r .number ≡ 0 → ⊥) → refusedLine (inputRefusal r) ≡ outputOf input
   unfolding outputOf
-  refused-lines r e h = ap (λ (x : InputRead). refusedLine (inputRefusal x)) e ∙ sym (not-taken (inputOf input .answer .number) _ _ (λ z. h (ap (λ (x : InputRead). x .number) e ∙ z)))
+  refused-lines r e h = ap (λ (x : InputRead). refusedLine (inputRefusal x)) e
+      ∙ sym (not-taken (inputOf input .answer .number) _ _ (λ z. h (ap (λ (x : InputRead). x .number) e ∙ z)))
 
-  pub job-lines : (r : InputRead) (first second : List ℕ) → r ≡ inputOf input .answer → r .number ≡ 0 → first ≡ inputOf input .first → second ≡ inputOf input .second
+  pub job-lines : (r : InputRead) (first second : List ℕ) → r ≡ inputOf input .answer → r .number ≡ 0 → first ≡ inputOf input .first
+      → second ≡ inputOf input .second
       → jobOutput (r .settings) first second ≡ outputOf input
   unfolding outputOf
   job-lines r first second e z f g =

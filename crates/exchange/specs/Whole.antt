@@ -10,7 +10,7 @@ use Rattle.kinds.specs.Kinds.{refusedLine}
 use Rattle.input.specs.declared.InputRead.{InputRead}
 use Rattle.input.specs.Grammar.{inputOf}
 use Rattle.lines.specs.Writing.{inFront}
-use Rattle.replies.specs.Output.{jobOutput}
+use Rattle.output.specs.Output.{jobOutput}
 
 unfoldable pub inputRefusal : InputRead → Refused
 inputRefusal x = record { number = x .number; sequence = 0; detail = x .line }

@@ -20,9 +20,9 @@ pub fn answer(input: &[u8], output: &mut [u8]) -> usize
             sequence: 0,
             detail: read.line,
         };
-        return replies::put_refused(refused, output);
+        return output::put_refused(refused, output);
     }
-    replies::answer_job(
+    output::answer_job(
         read.settings,
         &first[..read.first],
         &second[..read.second],

@@ -23,7 +23,7 @@ fn find(second: &[u64], bucket: &[u32], link: &[u32], n: usize, c: u64, limit: u
     ensures { λ r. ⌜ Found (now (second .entry)) c n limit r ⌝ }
 {
     let h = hash(c);
-    let mut x = casts::wide(bucket[h]);
+    let mut x = numbers::wide(bucket[h]);
     let mut left = limit;
     while 0 < x {
         if left == 0 {
@@ -34,7 +34,7 @@ fn find(second: &[u64], bucket: &[u32], link: &[u32], n: usize, c: u64, limit: u
         if second[p] == c {
             return x;
         }
-        x = casts::wide(link[p]);
+        x = numbers::wide(link[p]);
     }
     0
 }

@@ -11,9 +11,9 @@ use lib.ListN.{length, take, drop, length-append, length-take, length-drop, leng
 use lib.Seq.{take-nil, take-take, length-take-le}
 use borrow.Author.Tests.{eqb-true, eqb-false, leb-true, leb-false}
 use Rattle.rules.specs.Letters.{letterOf}
-use Rattle.lines.specs.Reading.{refusedFrame, frameIn}
-use Rattle.lines.proofs.Decoding.{line-long, line-parts, bytes-length}
-use Rattle.lines.proofs.Frames.{frame-read}
+use Rattle.decoding.specs.Reading.{refusedFrame, frameIn}
+use Rattle.decoding.proofs.Decoding.{line-long, line-parts, bytes-length}
+use Rattle.decoding.proofs.Frames.{frame-read}
 use Rattle.payloads.specs.Pieces.{codesIn}
 use Rattle.pieces.specs.Letters.{isPiece, pieceNumber, lettersIn}
 use Rattle.input.specs.Lines.{linesOf, lineSize}

@@ -11,11 +11,12 @@ use borrow.Author.Tests.{le-leb, ne-eqb}
 use Rattle.rules.specs.declared.Settings.{Settings}
 use Rattle.rules.specs.Lists.{laid}
 use Rattle.rules.specs.Letters.{letterOf}
-use Rattle.lines.specs.Digits.{digitOf, digitsOf, bytesIn}
+use Rattle.lines.specs.Digits.{digitOf, digitsOf}
+use Rattle.decoding.specs.Digits.{bytesIn}
 use Rattle.lines.specs.Writing.{checkOf, frameOf, lineOf}
-use Rattle.lines.specs.Reading.{frameIn}
+use Rattle.decoding.specs.Reading.{frameIn}
 use Rattle.lines.proofs.Storing.{digits-length}
-use Rattle.lines.proofs.RoundTrip.{Bytes, none, line-bytes, line-read}
+use Rattle.decoding.proofs.RoundTrip.{Bytes, none, line-bytes, line-read}
 use Rattle.payloads.specs.Pieces.{codeBytes, codesIn, pieceFits}
 use Rattle.kinds.specs.Kinds.{jobPayload, jobFits, jobLine, pieceLine, endLine}
 use Rattle.readers.specs.Readers.{jobIn}

@@ -1,24 +1,16 @@
--- The jobs from any matches in so many rows: what their outcome is, and that the functions give it for all matches that the walks come to. Assumes
+-- The compare job from any matches in so many rows: what its outcome is, and that the functions give it for all matches that the walks come to. Assumes
 -- nothing.
 use mathlib.Core.Path.{_≡_}
-use mathlib.Core.List.{List, []}
+use mathlib.Core.List.{List}
 use Prim.Native.Nat.{ℕ, _+_}
 use lib.ListN.{length}
 use Rattle.rules.specs.declared.Settings.{Settings}
 use Rattle.rules.specs.declared.Answer.{Answer}
 use Rattle.rules.specs.declared.Cell.{Cell}
-use Rattle.rules.specs.declared.Record.{Record}
-use Rattle.rules.specs.Lists.{keep, laid, thenZeros}
-use Rattle.rules.specs.Records.{recordsFrom}
-use Rattle.rules.specs.Rooms.{recordNumbers, inRun, largestRun, pairs}
-use Rattle.rules.specs.Answers.{Outcome, comparing, stopping}
-use Rattle.predecessors.specs.declared.Ring.{Ring}
-use Rattle.predecessors.specs.Numbers.{RingFits, slotOf}
-use Rattle.strands.specs.Strands.{entriesOf, largerOf, WalkTo}
-
--- the records of the run of row r
-unfoldable pub runOf : Settings → List Cell → ℕ → List Record
-runOf c cells r = keep (λ x. inRun (c .b) r (x .cell)) (recordsFrom (c .b) [] cells)
+use Rattle.rules.specs.Rooms.{pairs}
+use Rattle.rules.specs.Answers.{Outcome, left, finishing, comparing}
+use Rattle.strands.specs.Strands.{entriesOf, largerOf, WalkTo, Entered}
+use Rattle.jobs.specs.declared.Tallies.{Tallies}
 
 -- checks 7 and 8, and the compare job done, from the matches of each strand in so many rows
 unfoldable pub comparedOf : Settings → ℕ → List Cell → ℕ → List Cell → ℕ → List ℕ → List ℕ → Outcome
@@ -27,27 +19,16 @@ comparedOf c letters forward rows reverse reverse-rows work list =
     comparing (entriesOf c letters forward reverse) (length forward + length reverse) (largerOf (c .b) forward rows reverse reverse-rows)
     (pairs (c .b) forward + pairs (c .b) reverse) work list
 
--- checks 7 and 19, and the stopped sweep done
-unfoldable pub stoppedOf : Settings → List Cell → ℕ → List ℕ → ℕ → Outcome
-unfolding runOf
-stoppedOf c cells rows work r = stopping (runOf c cells r) (length cells) (largestRun (c .b) cells rows) (pairs (c .b) cells) rows work r
-
 -- ---- contracts
 
--- the run of a row, where `widest` is W
-pub record Holds (firsts nexts : List ℕ) (widest : ℕ) (c : Settings) (r : ℕ) (work work′ : List ℕ) (n : ℕ) : Type 0 where
-  pub held : (cells : List Cell) → WalkTo firsts nexts cells → widest ≡ largestRun (c .b) cells (length firsts)
-      → (n ≡ length (runOf c cells r)) × (work′ ≡ thenZeros (laid recordNumbers (runOf c cells r)) (length work))
-
-pub record RingFrom (size before : ℕ) (ring : Ring) : Type 0 where
-  pub fits : RingFits ring
-  pub sized : ring .size ≡ size
-  pub first : slotOf ring before ≡ 0
-
-pub record ComparesMatches (firsts nexts reverse-firsts reverse-nexts : List ℕ) (c : Settings) (letters : ℕ) (work list work′ list′ : List ℕ) (r : Answer) : Type 0 where
+-- check 8 and the end of a job whose entries stand in the list room
+pub record Finishes (firsts nexts reverse-firsts reverse-nexts : List ℕ) (b : ℕ) (tallies : Tallies)
+    (work list work′ list′ : List ℕ) (r : Answer) : Type 0 where
   pub outcome : (forward reverse : List Cell) → WalkTo firsts nexts forward → WalkTo reverse-firsts reverse-nexts reverse
-      → _≡_ {A = Outcome} (record { answer = r; work = work′; list = list′ }) (comparedOf c letters forward (length firsts) reverse (length reverse-firsts) work list)
+      → (entries : List (List ℕ)) → Entered entries list (tallies .listed)
+      → left r work′ list′ ≡ finishing entries (tallies .matches) (tallies .widest) (pairs b forward + pairs b reverse) work list
 
-pub record StopsMatches (firsts nexts : List ℕ) (c : Settings) (row : ℕ) (work work′ : List ℕ) (r : Answer) : Type 0 where
-  pub outcome : (cells : List Cell) → WalkTo firsts nexts cells
-      → _≡_ {A = Outcome} (record { answer = r; work = work′; list = [] }) (stoppedOf c cells (length firsts) work row)
+pub record ComparesMatches (firsts nexts reverse-firsts reverse-nexts : List ℕ) (c : Settings) (letters : ℕ) (work list work′ list′ : List ℕ)
+    (r : Answer) : Type 0 where
+  pub outcome : (forward reverse : List Cell) → WalkTo firsts nexts forward → WalkTo reverse-firsts reverse-nexts reverse
+      → left r work′ list′ ≡ comparedOf c letters forward (length firsts) reverse (length reverse-firsts) work list

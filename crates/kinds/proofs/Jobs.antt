@@ -8,7 +8,7 @@ use lib.Dec.{eqb}
 use lib.ListN.{length, take}
 use borrow.Author.Tests.{ne-eqb, eqb-true, eqb-false}
 use Rattle.rules.specs.declared.Settings.{Settings}
-use Rattle.lines.proofs.RoundTrip.{Bytes, bytes-append}
+use Rattle.decoding.proofs.RoundTrip.{Bytes, bytes-append}
 use Rattle.payloads.specs.Numbers.{numberBytes}
 use Rattle.payloads.proofs.Numbers.{number-bytes}
 use Rattle.kinds.specs.Kinds.{jobNumbers, jobPayload}

@@ -1,15 +1,16 @@
 -- A code by the letters of its place, and its bound: at most 62 bits and one. Assumes nothing.
-use mathlib.Core.Path.{_≡_, refl, sym, _∙_}
+use mathlib.Core.Path.{_≡_, refl, sym, ap, _∙_}
 use mathlib.Core.Bool.{Bool, true, false, cond}
 use mathlib.Core.List.{List, _++_}
 use mathlib.Core.Option.{none, some}
 use mathlib.Core.Logic.{⊎-elim}
 use Prim.Native.Nat.{ℕ, zero, suc, _+_, _^_, _<_, _≤_}
 use native.Mathlib.Omega.{arith}
-use lib.ListN.{drop}
+use lib.ListN.{length, take, drop}
+use lib.Seq.{take-at}
 use Rattle.rules.specs.Places.{places, allBases, lettersAt, kmerAt, packed}
 use Rattle.rules.specs.Codes.{kmerCode, codes, codeAt}
-use Rattle.rules.proofs.Kmers.{code-at, kmer-outside}
+use Rattle.rules.proofs.Kmers.{code-at, kmer-outside, codes-length}
 use Rattle.kmers.proofs.Tests.{le-or-lt}
 use Rattle.kmers.proofs.Packing.{packed-62}
 use Rattle.kmers.proofs.Standing.{kmer-inside, letters-most}
@@ -40,6 +41,15 @@ code-bound k s (suc p) h =
 
 pub code-at-bound : (k : ℕ) (s : List ℕ) (i : ℕ) → k ≤ 31 → codeAt (codes k s) i < 2 ^ 62 + 1
 code-at-bound k s i h = rw (code-at k s i) (code-bound k s i h)
+
+-- what a pass over a sequence wrote first are its codes
+pub codes-front : (k : ℕ) (s rest : List ℕ) {out : List ℕ} {rows : ℕ} → rows ≡ places k s → out ≡ codes k s ++ rest → take rows out ≡ codes k s
+codes-front k s rest {out} {rows} e d = ap (take rows) d ∙ take-at (codes k s) rest rows (codes-length k s ∙ sym e)
+
+-- of which there are few
+pub places-few : (k : ℕ) (s : List ℕ) → 1 ≤ k → length s ≤ 16384 → places k s ≤ 16384
+unfolding places
+places-few k s h l = omega arith
 
 -- a room that has the codes, and behind them what was there, is one list only
 pub codes-unique : (k : ℕ) (s before a b : List ℕ) → a ≡ codes k s ++ drop (places k s) before → b ≡ codes k s ++ drop (places k s) before → a ≡ b

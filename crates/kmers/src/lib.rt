@@ -18,11 +18,11 @@ pub enum Kmer {
 }
 
 // How many places a sequence of so many letters has. The clause bars only the greatest length with k = 0, whose answer fits no word.
-pub fn places(length: usize, k: usize) -> usize
-    requires { ⌜ suc length - k < 2 ^ 64 ⌝ }
-    ensures { λ r. ⌜ r ≡ suc length - k ⌝ }
+pub fn places(letters: usize, k: usize) -> usize
+    requires { ⌜ suc letters - k < 2 ^ 64 ⌝ }
+    ensures { λ r. ⌜ r ≡ suc letters - k ⌝ }
 {
-    if k <= length { length - k + 1 } else { 0 }
+    if k <= letters { letters - k + 1 } else { 0 }
 }
 
 // The letters A, C, G and T, the first lowest.
@@ -121,4 +121,17 @@ pub fn fill_codes(s: &[u8], k: usize, out: &mut [u64])
             out[first] = slot(code, run, k);
         }
     }
+}
+
+// The codes of a sequence as the settings name k, in front of as many numbers as a sequence can have places; returns how many there are.
+pub fn code_all(s: &[u8], k: u32, out: &mut [u64; 16384]) -> usize
+    requires { ⌜ 1 ≤ k ⌝ }
+    requires { ⌜ k ≤ 31 ⌝ }
+    requires { ⌜ length (now s) ≤ 16384 ⌝ }
+    ensures { λ r. ⌜ r ≡ placesIn k (now (s .entry)) ⌝ }
+    ensures { λ _. ⌜ now (out .exit) ≡ codes k (now (s .entry)) ++ drop (placesIn k (now (s .entry))) (now (out .entry)) ⌝ }
+{
+    let bases = k as usize;
+    fill_codes(s, bases, out);
+    places(s.len(), bases)
 }

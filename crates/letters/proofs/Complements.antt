@@ -49,7 +49,13 @@ turning-long {s} {old} {out} {n} v =
     let w = v .within in
     let r = v .room in
     ap length (v .front)
-    ∙ omega (arith, length-append (reverseComplement (drop (length s - n) s)) (drop n old), turned-length (drop (length s - n) s), length-drop (length s - n) s, length-drop n old)
+    ∙ omega (
+      arith,
+      length-append (reverseComplement (drop (length s - n) s)) (drop n old),
+      turned-length (drop (length s - n) s),
+      length-drop (length s - n) s,
+      length-drop n old,
+    )
 
 pub turning-start : (s old : List ℕ) → length s ≤ length old → Turning s old old 0
 unfolding reverseComplement
@@ -58,7 +64,8 @@ turning-start s old h =
     record { within = omega arith; room = h; front = rw (drop-of-length-le s e) }
 
 -- one letter more, the last of those that are left
-pub turning-next : {s old out : List ℕ} {n : ℕ} → Turning s old out n → n < length s → {x : ℕ} → x ≡ complement (getD s (length s - 1 - n) 0) → Turning s old (set out n x) (n + 1)
+pub turning-next : {s old out : List ℕ} {n : ℕ} → Turning s old out n → n < length s → {x : ℕ} → x ≡ complement (getD s (length s - 1 - n) 0)
+    → Turning s old (set out n x) (n + 1)
 unfolding reverseComplement
 turning-next {s} {old} {out} {n} v h {x} ex =
     let r = v .room in
@@ -71,7 +78,8 @@ turning-next {s} {old} {out} {n} v h {x} ex =
     record {
       within = omega arith;
       room = r;
-      front = rw (next, drop-cons s p 0 (omega arith), ← ex, add-one n, append-snoc done x (drop (suc n) old), front) (set-at done (getD old n 0) (drop (suc n) old) x n size);
+      front = rw (next, drop-cons s p 0 (omega arith), ← ex, add-one n, append-snoc done x (drop (suc n) old), front)
+          (set-at done (getD old n 0) (drop (suc n) old) x n size);
     }
 
 pub turning-end : {s old out : List ℕ} {n : ℕ} → Turning s old out n → length s ≤ n → out ≡ reverseComplement s ++ drop (length s) old

@@ -38,7 +38,13 @@ first-more x xs p h f = record {
 more : (n x : ℕ) (xs : List ℕ) (t : Bool) → eqb (codeOf x) 0 ≡ t → Found (suc n) xs → Found n (x ∷ xs)
 unfolding badFrom
 more n x xs true e r =
-    first 1 (rw e (omega arith)) record { before = 0; here = refl; inside = omega arith; bad = eqb-true (codeOf x) 0 e; good = λ i h. absurd (not-suc-le-zero h) }
+    first 1 (rw e (omega arith)) record {
+      before = 0;
+      here = refl;
+      inside = omega arith;
+      bad = eqb-true (codeOf x) 0 e;
+      good = λ i h. absurd (not-suc-le-zero h);
+    }
 more n x xs false e (nothing z g) = let c = eqb-false (codeOf x) 0 e in nothing (rw e z) (coded-more x xs (omega arith) g)
 more n x xs false e (first p z f) = let c = eqb-false (codeOf x) 0 e in first (suc p) (rw e (z ∙ omega arith)) (first-more x xs p (omega arith) f)
 

@@ -1,4 +1,3 @@
 -- What a line is, in the words of document 01, "Frames".
 pub mod Digits
 pub mod Writing
-pub mod Reading

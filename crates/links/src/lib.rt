@@ -27,7 +27,7 @@ fn release_row(
     while j != 0 {
         counts[j] = std::num::wrapping_sub_u32(counts[j], 1);
         left = windows::without(b, at, left, j);
-        j = casts::wide(nexts[j - 1]);
+        j = numbers::wide(nexts[j - 1]);
     }
     left
 }
@@ -51,7 +51,7 @@ fn release(
     if p <= b {
         return held;
     }
-    release_row(nexts, casts::wide(firsts[p - b - 1]), b, counts, at, held)
+    release_row(nexts, numbers::wide(firsts[p - b - 1]), b, counts, at, held)
 }
 
 // A link total on its way, and the window of columns that was summed last.
@@ -85,11 +85,11 @@ fn add_row(
     let mut j = start;
     while j != 0 {
         let window = windows::slide(counts, b, at, held, j);
-        total = std::num::wrapping_add_u64(total, casts::long(window));
+        total = std::num::wrapping_add_u64(total, numbers::long(window));
         counts[j] = std::num::wrapping_add_u32(counts[j], 1);
         held = std::num::wrapping_add_u32(window, 1);
         at = j;
-        j = casts::wide(nexts[j - 1]);
+        j = numbers::wide(nexts[j - 1]);
     }
     Linking { total, at, held }
 }
@@ -108,7 +108,7 @@ pub fn count_links(firsts: &[u32], nexts: &[u32], b: usize) -> u64
         held = release(firsts, nexts, b, p, &mut counts, at, held);
         let links = add_row(
             nexts,
-            casts::wide(firsts[p]),
+            numbers::wide(firsts[p]),
             b,
             &mut counts,
             Linking { total, at, held },

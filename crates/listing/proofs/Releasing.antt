@@ -18,8 +18,10 @@ use Rattle.rules.specs.Listing.{isListed, entryNumbers}
 use Rattle.rules.specs.Rooms.{listHolds}
 use Rattle.rules.proofs.Tests.{Three, below, equal, above, three}
 use Rattle.rules.proofs.ListLaws.{keep-append, laid-snoc}
-use Rattle.rooms.specs.Layout.{recordIn, entryIn32, putEntry}
-use Rattle.rooms.proofs.Slots.{holds-record, entry-fits}
+use Rattle.records.specs.Layout.{recordIn}
+use Rattle.entries.specs.Layout.{entryIn32, putEntry}
+use Rattle.records.proofs.Slots.{holds-record}
+use Rattle.entries.proofs.Fitting.{entry-fits}
 use Rattle.predecessors.specs.declared.Ring.{Ring}
 use Rattle.predecessors.specs.Numbers.{slotOf, nothing, nth}
 use Rattle.predecessors.specs.Index.{InRoom}
@@ -110,7 +112,8 @@ module _ (c : Settings) (cells : List Cell) (front : List Record) (list : List �
 -- ---- record by record
 
 -- the records from tail to t are old, and those before t that are listed are in the list
-pub record Releasing (c : Settings) (i : ℕ) (room latest : List ℕ) (ring : Ring) (tail head : ℕ) (list₀ : List ℕ) (listed₀ t : ℕ) (list : List ℕ) (n : ℕ) : Type 0 where
+pub record Releasing (c : Settings) (i : ℕ) (room latest : List ℕ) (ring : Ring) (tail head : ℕ) (list₀ : List ℕ) (listed₀ t : ℕ) (list : List ℕ)
+    (n : ℕ) : Type 0 where
   pub from : tail ≤ t
   pub to : t ≤ head
   pub few : n ≤ t
@@ -119,14 +122,16 @@ pub record Releasing (c : Settings) (i : ℕ) (room latest : List ℕ) (ring : R
   pub entered : (k : ℕ) (all : List Record) (cells : List Cell) → ReleaseAsks c i k all cells room latest ring tail head
       → ListedTo c cells (take tail all) list₀ listed₀ → ListedTo c cells (take t all) list n
 
-module _ {c : Settings} {i : ℕ} {room latest : List ℕ} {ring : Ring} {tail head : ℕ} {list₀ : List ℕ} {listed₀ : ℕ} (s : ReleaseSafe room ring tail head c listed₀) where
+module _ {c : Settings} {i : ℕ} {room latest : List ℕ} {ring : Ring} {tail head : ℕ} {list₀ : List ℕ} {listed₀ : ℕ}
+    (s : ReleaseSafe room ring tail head c listed₀) where
   pub releasing-start : Releasing c i room latest ring tail head list₀ listed₀ tail list₀ listed₀
   releasing-start =
       record { from = le-refl _; to = s .order; few = s .entries; size = refl; old = λ all r e g h l. absurd (omega arith); entered = λ k all cells a v. v }
 
   module _ {t : ℕ} {list : List ℕ} {n : ℕ} (v : Releasing c i room latest ring tail head list₀ listed₀ t list n) where
     -- what is read of record t is record t
-    read-is : (all : List Record) → InRoom all room ring tail → length all ≡ head → t < head → (x : Record) (slot : ℕ) → slot ≡ slotOf ring (t + 1 - 1) → x ≡ recordIn room slot → x ≡ nth all t
+    read-is : (all : List Record) → InRoom all room ring tail → length all ≡ head → t < head → (x : Record) (slot : ℕ) → slot ≡ slotOf ring (t + 1 - 1)
+        → x ≡ recordIn room slot → x ≡ nth all t
     read-is all r e h x slot es ex =
         let f = v .from in
         ex ∙ ap (recordIn room) (es ∙ ap (slotOf ring) (omega arith)) ∙ holds-record room (slotOf ring t) (nth all t) (r t f (omega arith))
@@ -137,7 +142,8 @@ module _ {c : Settings} {i : ℕ} {room latest : List ℕ} {ring : Ring} {tail h
     done h young =
         record { from = v .from; to = v .to; few = v .few; size = v .size; released = λ k all cells a. machine k all cells a; entered = v .entered }
       where
-        machine : (k : ℕ) (all : List Record) (cells : List Cell) → ReleaseAsks c i k all cells room latest ring tail head → Machine (c .b) i all room latest ring t
+        machine : (k : ℕ) (all : List Record) (cells : List Cell) → ReleaseAsks c i k all cells room latest ring tail head
+            → Machine (c .b) i all room latest ring t
         machine k all cells a =
             let m = a .machine in
             let f = v .from in
@@ -192,7 +198,8 @@ module _ {c : Settings} {i : ℕ} {room latest : List ℕ} {ring : Ring} {tail h
         count-few true e = let w = v .few in omega arith
         count-few false e = let w = v .few in omega arith
 
-        older : (all : List Record) → InRoom all room ring tail → length all ≡ head → (g : ℕ) → tail ≤ g → g < t + 1 → Three g t → nth all g .cell .row + c .b < i
+        older : (all : List Record) → InRoom all room ring tail → length all ≡ head → (g : ℕ) → tail ≤ g → g < t + 1 → Three g t
+            → nth all g .cell .row + c .b < i
         older all r e g q w (below z) = v .old all r e g q z
         older all r e g q w (equal z) = let d = ap (λ (y : Record). y .cell .row) (read-is all r e h x slot es ex) in rw z (omega arith)
         older all r e g q w (above z) = absurd (omega arith)
@@ -210,7 +217,8 @@ module _ {c : Settings} {i : ℕ} {room latest : List ℕ} {ring : Ring} {tail h
             let sm = a .small t here in
             let dc = ap (λ (y : Record). y .cell .column) d in
             let one = one-more c cells (take t all) list n x w (s .some-base) (omega (arith, sm .0)) (omega (arith, sm .1)) (passes latest t x c) p in
-            let e : take (t + 1) all ≡ take t all ++ (x ∷ []) = ap (λ (q : ℕ). take q all) (add-one t) ∙ take-suc all t nothing here ∙ ap (λ (y : Record). take t all ++ (y ∷ [])) (sym d) in
+            let e : take (t + 1) all ≡ take t all ++ (x ∷ []) = ap (λ (q : ℕ). take q all) (add-one t) ∙ take-suc all t nothing here
+            ∙ ap (λ (y : Record). take t all ++ (y ∷ [])) (sym d) in
             subst⁻¹ (λ (r : List Record). ListedTo c cells r list′ n′) e
             (subst⁻¹ (λ (l : List ℕ). ListedTo c cells (take t all ++ (x ∷ [])) l n′) el
             (subst⁻¹ (λ (q : ℕ). ListedTo c cells (take t all ++ (x ∷ [])) (listedRoom (passes latest t x c) (c .k) x list n) q) en one))

@@ -11,7 +11,7 @@ use Rattle.rules.specs.declared.Record.{Record}
 use Rattle.rules.specs.Lists.{keep, laid}
 use Rattle.rules.specs.Listing.{longEnough, isListed, entryNumbers}
 use Rattle.rules.specs.Rooms.{listHolds}
-use Rattle.rooms.specs.Layout.{putEntry}
+use Rattle.entries.specs.Layout.{putEntry}
 use Rattle.predecessors.specs.declared.Ring.{Ring}
 use Rattle.predecessors.specs.Numbers.{RingFits, nth}
 use Rattle.predecessors.specs.Index.{Sorted}

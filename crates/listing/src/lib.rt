@@ -59,8 +59,8 @@ fn is_listed(latest: &[u32], t: usize, x: Record, c: Settings) -> bool
     if span(x.cell.column, c.k, x.start.column) < m {
         return false;
     }
-    let j = casts::wide(x.cell.column);
-    let b = casts::wide(c.b);
+    let j = numbers::wide(x.cell.column);
+    let b = numbers::wide(c.b);
     if is_open(latest, t, j, b) {
         return false;
     }
@@ -84,7 +84,7 @@ fn list_record(
 {
     if is_listed(latest, t, x, c) {
         if n < rooms::entry_count(list) {
-            rooms::put_entry(list, n, c.k, x);
+            entries::put_entry(list, n, c.k, x);
             return n + 1;
         }
         return n + 1;
@@ -114,12 +114,12 @@ pub fn release(
     requires { ⌜ ReleaseSafe (now room) ring tail head c listed ⌝ }
     ensures { λ r. ⌜ ReleaseDone c i (now (room .entry)) (now (latest .entry)) ring tail head (now (list .entry)) listed (now (list .exit)) r ⌝ }
 {
-    let b = casts::wide(c.b);
+    let b = numbers::wide(c.b);
     let mut t = tail;
     let mut n = listed;
     while t < head {
-        let x = rooms::record_at(room, predecessors::slot(ring, t + 1));
-        if i <= casts::wide(x.cell.row) + b {
+        let x = records::record_at(room, predecessors::slot(ring, t + 1));
+        if i <= numbers::wide(x.cell.row) + b {
             return Released { tail: t, listed: n };
         }
         n = list_record(latest, t, x, c, list, n);

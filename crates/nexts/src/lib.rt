@@ -26,17 +26,17 @@ pub fn link_columns(
     ensures { λ _. ⌜ NextColumns (now (second .entry)) (now (nexts .entry)) (now (nexts .exit)) ⌝ }
     ensures { λ _. ⌜ Tallied (now (own .entry)) (length (now (second .entry))) a (now (count .entry)) (now (count .exit)) ⌝ }
 {
-    let mut k = second.len();
-    while 0 < k {
-        k -= 1;
-        let e = casts::wide(own[k]);
+    let mut p = second.len();
+    while 0 < p {
+        p -= 1;
+        let e = numbers::wide(own[p]);
         if e == 0 {
-            nexts[k] = 0;
+            nexts[p] = 0;
         } else {
             let q = e - 1;
             let t = tail[q];
-            nexts[k] = t;
-            tail[q] = (k + 1) as u32;
+            nexts[p] = t;
+            tail[q] = (p + 1) as u32;
             count[q] = totals::count_on(count[q], a);
         }
     }

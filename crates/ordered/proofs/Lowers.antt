@@ -7,7 +7,7 @@ use Prim.Native.Nat.{ℕ, _+_, _-_, _/_, _<_, _≤_}
 use native.Mathlib.Omega.{arith}
 use native.Mathlib.Numerals.{add-one}
 use lib.ListN.{getD, length}
-use Rattle.order.specs.Order.{Held, Ordered}
+use Rattle.order.specs.Order.{Placed, Ordered}
 use Rattle.order.proofs.Cases.{le-or-lt, eq-or-ne}
 use Rattle.ownership.specs.Owners.{ownOf}
 use Rattle.ordered.specs.Lower.{Lower}
@@ -72,10 +72,10 @@ lower-end a w = record { within = omega arith; upto = omega arith; low = w .low;
 
 module _ {second order : List ℕ} {m c k : ℕ} (nz : c ≡ 0 → ⊥) (h : Ordered second order order m) (w : Lower second order m c k k) where
   -- an index that has the code is held, at k or behind
-  where-held : (p : ℕ) → p < length second → getD second p 0 ≡ c → Held order m p
+  where-held : (p : ℕ) → p < length second → getD second p 0 ≡ c → Placed order m p
   where-held p l e = h .all p l (omega arith)
 
-  not-earlier : (p : ℕ) (r : Held order m p) → getD second p 0 ≡ c → k ≤ r .place
+  not-earlier : (p : ℕ) (r : Placed order m p) → getD second p 0 ≡ c → k ≤ r .place
   not-earlier p r e =
       ⊎-elim
       (λ (l : k ≤ r .place). l)

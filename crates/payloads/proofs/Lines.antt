@@ -3,8 +3,8 @@ use mathlib.Core.Path.{_≡_}
 use mathlib.Core.List.{List}
 use Prim.Native.Nat.{ℕ}
 use borrow.Author.Tests.{eq-eqb, ne-eqb}
-use Rattle.lines.specs.declared.Frame.{Frame}
-use Rattle.lines.specs.Reading.{frameIn}
+use Rattle.decoding.specs.declared.Frame.{Frame}
+use Rattle.decoding.specs.Reading.{frameIn}
 use Rattle.payloads.specs.Lines.{kindNumber}
 
 module _ (kind size : ℕ) (line : List ℕ) (f : Frame) (is : f ≡ frameIn line) where

@@ -11,7 +11,7 @@ use lib.Seq.{sets, set-comm, getD-append-add}
 use lib.Bits.{bitAnd, and-mask}
 use lib.Pow.{pow-add}
 use Rattle.rules.proofs.Computed.{at-each}
-use Rattle.lines.proofs.RoundTrip.{Bytes, none, more, bytes-append}
+use Rattle.decoding.proofs.RoundTrip.{Bytes, none, more, bytes-append}
 use Rattle.payloads.specs.Numbers.{numberBytes, numberAt}
 
 pub low-byte : (x : ℕ) → bitAnd x 255 ≡ x % 256

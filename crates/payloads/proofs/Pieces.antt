@@ -9,9 +9,9 @@ use lib.Dec.{eqb, leb}
 use lib.ListN.{length, getD, take, drop, set, length-set, drop-of-length-le}
 use lib.Seq.{sets, take-at, drop-cons, drop-drop, getD-drop}
 use borrow.Author.Tests.{le-leb, lt-leb, leb-true, eqb-true, ne-eqb}
-use Rattle.lines.proofs.Decoding.{and-left, and-right}
+use Rattle.decoding.proofs.Decoding.{and-left, and-right}
 use Rattle.lines.proofs.Storing.{sets-front}
-use Rattle.lines.proofs.RoundTrip.{Bytes, none, more}
+use Rattle.decoding.proofs.RoundTrip.{Bytes, none, more}
 use Rattle.payloads.specs.Pieces.{allCodes, codeBytes, codesIn, codesFit, pieceFits}
 
 -- ---- are they codes

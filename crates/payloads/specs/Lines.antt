@@ -3,7 +3,7 @@ use mathlib.Core.Bool.{cond}
 use mathlib.Core.List.{List}
 use Prim.Native.Nat.{ℕ}
 use lib.Dec.{eqb}
-use Rattle.lines.specs.Reading.{frameIn}
+use Rattle.decoding.specs.Reading.{frameIn}
 
 -- what is wrong with a line that is to have a kind and so many bytes of payload; 0 where nothing is
 unfoldable pub kindNumber : ℕ → ℕ → List ℕ → ℕ

@@ -4,7 +4,7 @@ ghost use mathlib.Core.Bool.{true};
 ghost use Prim.Native.Nat.{_+_, _*_, _%_, _^_, _<_, _≤_};
 ghost use lib.ListN.{length, getD};
 ghost use lib.Seq.{sets};
-ghost use Rattle.lines.specs.Reading.{bytesLeft};
+ghost use Rattle.decoding.specs.Reading.{bytesLeft};
 ghost use Rattle.payloads.specs.Numbers.{numberBytes, numberAt};
 ghost use Rattle.payloads.specs.Pieces.{allCodes, codeBytes};
 ghost use Rattle.payloads.specs.Lines.{kindNumber};
@@ -95,7 +95,7 @@ pub fn read_kind(line: &[u8], kind: u8, size: usize, bytes: &mut [u8]) -> u64
     ensures { λ r. ⌜ r ≡ kindNumber kind size (now (line .entry)) ⌝ }
     ensures { λ _. ⌜ now (bytes .exit) ≡ bytesLeft (now (line .entry)) (now (bytes .entry)) ⌝ }
 {
-    let frame = lines::read_line(line, bytes);
+    let frame = decoding::read_line(line, bytes);
     if frame.number != 0 {
         return frame.number;
     }

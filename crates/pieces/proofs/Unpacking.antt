@@ -10,7 +10,7 @@ use lib.ListN.{length, getD, drop, set, length-map, length-append, length-drop, 
 use lib.Seq.{sets, length-sets, drop-cons}
 use borrow.Author.Tests.{le-leb, lt-leb, leb-true, eq-eqb, ne-eqb, eqb-true, eqb-false}
 use Rattle.rules.specs.Letters.{letterOf}
-use Rattle.lines.proofs.Decoding.{and-left, and-right}
+use Rattle.decoding.proofs.Decoding.{and-left, and-right}
 use Rattle.lines.proofs.Storing.{sets-append}
 use Rattle.payloads.specs.Pieces.{allCodes, codesIn}
 use Rattle.pieces.specs.Letters.{isPiece, lettersIn}

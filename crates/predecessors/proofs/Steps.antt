@@ -17,8 +17,8 @@ use Rattle.rules.specs.Records.{beats, better, pick}
 use Rattle.rules.proofs.Tests.{Three, below, equal, above, three, tested, tests}
 use Rattle.rules.proofs.ListLaws.{mem-at}
 use Rattle.rules.proofs.Ties.{Under}
-use Rattle.rooms.specs.Layout.{recordIn}
-use Rattle.rooms.proofs.Slots.{holds-record}
+use Rattle.records.specs.Layout.{recordIn}
+use Rattle.records.proofs.Slots.{holds-record}
 use Rattle.predecessors.specs.declared.Ring.{Ring}
 use Rattle.predecessors.specs.Numbers.{slotOf, numbered, nothing, nth}
 use Rattle.predecessors.specs.Index.{Known, Sorted, Nearest, no-near, has-near, Ready, Found}
@@ -86,11 +86,12 @@ pub record Passed (b i j : ℕ) (all : List Record) (room : List ℕ) (ring : Ri
   pub met : Met b (cell i j) all tail q top
   pub above : tail ≤ top
 
-pub record Walked (room latest : List ℕ) (ring : Ring) (tail near column from b j q stop top best : ℕ) : Type 0 where
+pub record WalkedDown (room latest : List ℕ) (ring : Ring) (tail near column from b j q stop top best : ℕ) : Type 0 where
   pub passed : (i : ℕ) (all : List Record) → Ready b i j all room latest ring tail near column from → Passed b i j all room ring tail q stop top best
 
 -- the nearest match of the row lies in the window, or there is none and the window reaches column 0
-near-begins : (room latest : List ℕ) (ring : Ring) (tail near column from b j i : ℕ) (all : List Record) → j - b ≤ column → Ready b i j all room latest ring tail near column from
+near-begins : (room latest : List ℕ) (ring : Ring) (tail near column from b j i : ℕ) (all : List Record) → j - b ≤ column
+    → Ready b i j all room latest ring tail near column from
     → Walk b (cell i j) all j column (numbered room ring near)
 near-begins room latest ring tail near column from b j i all h r = go (r .nearest)
   where
@@ -119,7 +120,8 @@ near-begins room latest ring tail near column from b j i all h r = go (r .neares
         held n h e = let z : ¬ (n < tail) = λ t. (let u = r .gone n t h in omega arith) in omega arith
 
 -- it lies left of the window
-far-begins : (room latest : List ℕ) (ring : Ring) (tail near column from b j i : ℕ) (all : List Record) → column < j - b → Ready b i j all room latest ring tail near column from
+far-begins : (room latest : List ℕ) (ring : Ring) (tail near column from b j i : ℕ) (all : List Record) → column < j - b
+    → Ready b i j all room latest ring tail near column from
     → Walk b (cell i j) all j (j - b - 1) (numbered room ring 0)
 far-begins room latest ring tail near column from b j i all h r =
     rw (numbered-none room ring)
@@ -134,29 +136,37 @@ far-begins room latest ring tail near column from b j i all h r =
         omega arith
 
 module _ {room latest : List ℕ} {ring : Ring} {tail near column from b j : ℕ} where
-  walked-near : j - b ≤ column → Walked room latest ring tail near column from b j j column tail near
-  walked-near h = record { passed = λ i all r. record { walk = near-begins room latest ring tail near column from b j i all h r; met = met-none refl; above = omega arith } }
+  walked-near : j - b ≤ column → WalkedDown room latest ring tail near column from b j j column tail near
+  walked-near h = record {
+    passed =
+        λ i all r. record { walk = near-begins room latest ring tail near column from b j i all h r; met = met-none refl; above = omega arith };
+  }
 
-  walked-far : column < j - b → Walked room latest ring tail near column from b j j (j - b - 1) tail 0
-  walked-far h = record { passed = λ i all r. record { walk = far-begins room latest ring tail near column from b j i all h r; met = met-none refl; above = omega arith } }
+  walked-far : column < j - b → WalkedDown room latest ring tail near column from b j j (j - b - 1) tail 0
+  walked-far h = record {
+    passed =
+        λ i all r. record { walk = far-begins room latest ring tail near column from b j i all h r; met = met-none refl; above = omega arith };
+  }
 
   -- so the walk begins
   pub walked-begin : {best stop : ℕ} → best ≡ cond (leb (j - b) column) near 0 → stop ≡ cond (leb (j - b) column) column (j - b - 1)
-      → (j - b ≤ stop + 1) × Walked room latest ring tail near column from b j j stop tail best
+      → (j - b ≤ stop + 1) × WalkedDown room latest ring tail near column from b j j stop tail best
   walked-begin eb es = rw (eb, es) (go (tested (leb (j - b) column)))
     where
       go : T (leb (j - b) column) ⊎ (¬ T (leb (j - b) column))
-          → (j - b ≤ cond (leb (j - b) column) column (j - b - 1) + 1) × Walked room latest ring tail near column from b j j (cond (leb (j - b) column) column (j - b - 1)) tail (cond (leb (j - b) column) near 0)
+          → (j - b ≤ cond (leb (j - b) column) column (j - b - 1) + 1)
+          × WalkedDown room latest ring tail near column from b j j (cond (leb (j - b) column) column (j - b - 1)) tail (cond (leb (j - b) column) near 0)
       go (inl t) = let h : j - b ≤ column = simp tests at t in rw (le-leb (j - b) column h) (omega arith, walked-near h)
       go (inr t) = let h = simp tests at t in let g : column < j - b = omega arith in rw (lt-leb (j - b) column g) (omega arith, walked-far g)
 
-  module _ {q stop top best : ℕ} (v : Walked room latest ring tail near column from b j q stop top best) (h : stop < q) where
+  module _ {q stop top best : ℕ} (v : WalkedDown room latest ring tail near column from b j q stop top best) (h : stop < q) where
     module _ (i : ℕ) (all : List Record) (g : Ready b i j all room latest ring tail near column from) where
       abbrev c : Cell
       c = cell i j
 
       -- column q's last record is not later than one already met, or is released: nothing there matters
-      under : getD latest q 0 ≤ top → Met b c all tail q top → (x : Record) → Near b c all x → x .cell .column ≡ q → ((n : ℕ) × (n < length all) × (x ≡ nth all n)) → Under x (numbered room ring best)
+      under : getD latest q 0 ≤ top → Met b c all tail q top → (x : Record) → Near b c all x → x .cell .column ≡ q
+          → ((n : ℕ) × (n < length all) × (x ≡ nth all n)) → Under x (numbered room ring best)
       under le m x n e (k, l, p) =
           let pc = ap (λ (y : Record). y .cell .column) p in
           let pr = ap (λ (y : Record). y .cell .row) p in
@@ -187,7 +197,7 @@ module _ {room latest : List ℕ} {ring : Ring} {tail near column from b j : ℕ
           }
 
     -- nothing in column q that could be better
-    pub walked-skip : getD latest q 0 ≤ top → Walked room latest ring tail near column from b j (q - 1) stop top best
+    pub walked-skip : getD latest q 0 ≤ top → WalkedDown room latest ring tail near column from b j (q - 1) stop top best
     walked-skip e = record { passed = λ i all g. skipped i all g e }
 
     module _ (low : j - b ≤ q) (high : q ≤ j) (r : ℕ) (lt : top < getD latest q 0)
@@ -248,14 +258,15 @@ module _ {room latest : List ℕ} {ring : Ring} {tail near column from b j : ℕ
             record { walk = taken; met = met-one (omega arith) (g .columns .within q) x-near (omega arith); above = omega arith }
 
       -- column q's last record is later than all that were met: the better of it and the best so far
-      pub walked-take : Walked room latest ring tail near column from b j (q - 1) stop (getD latest q 0) r
+      pub walked-take : WalkedDown room latest ring tail near column from b j (q - 1) stop (getD latest q 0) r
       walked-take = record { passed = passed }
 
       -- and it is of the latest row before this one: nothing further left can be better
       pub walked-stop : from < getD latest q 0 → Found room latest ring tail near column from b j r
       walked-stop l = record { picked = λ i all g. ended i all g l }
 
-  pub walked-end : {q stop top best : ℕ} → Walked room latest ring tail near column from b j q stop top best → q ≤ stop → Found room latest ring tail near column from b j best
+  pub walked-end : {q stop top best : ℕ} → WalkedDown room latest ring tail near column from b j q stop top best → q ≤ stop
+      → Found room latest ring tail near column from b j best
   walked-end {q} {stop} {top} {best} v h =
       record {
         picked = λ i all g.

@@ -83,10 +83,24 @@ module _ (b : ℕ) (hit : Cell → Bool) (columns : ℕ) (i j : ℕ) where
       go : List·Memᴰ y (matchesTo hit columns i) ⊎ List·Memᴰ y (rowTo hit (suc i) j) → Place y
       go (inl n) =
           let h = matches-in hit columns i y n in
-          record { is-hit = h .is-hit; row-from = h .row-from; row-to = omega (arith, h .row-to); column-from = h .column-from; own = λ e. absurd (omega (arith, h .row-to)); low = λ _. h .column-to }
+          record {
+            is-hit = h .is-hit;
+            row-from = h .row-from;
+            row-to = omega (arith, h .row-to);
+            column-from = h .column-from;
+            own = λ e. absurd (omega (arith, h .row-to));
+            low = λ _. h .column-to;
+          }
       go (inr n) =
           let h = row-in hit (suc i) j y n in
-          record { is-hit = h .is-hit; row-from = omega (arith, h .row-is); row-to = omega (arith, h .row-is); column-from = h .column-from; own = λ _. h .column-to; low = λ l. absurd (omega (arith, h .row-is)) }
+          record {
+            is-hit = h .is-hit;
+            row-from = omega (arith, h .row-is);
+            row-to = omega (arith, h .row-is);
+            column-from = h .column-from;
+            own = λ _. h .column-to;
+            low = λ l. absurd (omega (arith, h .row-is));
+          }
 
   pub swept-place : (x : Record) → List·Memᴰ x all → Place (x .cell)
   swept-place x m = matched-place (x .cell) (subst (List·Memᴰ (x .cell)) swept-cells (Memᴰ·map (λ (r : Record). r .cell) m))
@@ -95,9 +109,11 @@ module _ (b : ℕ) (hit : Cell → Bool) (columns : ℕ) (i j : ℕ) where
   swept-sorted g h l k =
       let e = ap length swept-cells in
       let n = length-map all (λ (x : Record). x .cell) in
-      let at : (t : ℕ) → getD (matchedTo b hit columns i j) t (cell 0 0) ≡ nth all t .cell = λ t. ap (λ (cs : List Cell). getD cs t (cell 0 0)) (sym swept-cells) ∙ nth-cell all t in
+      let at : (t : ℕ) → getD (matchedTo b hit columns i j) t (cell 0 0) ≡ nth all t .cell =
+      λ t. ap (λ (cs : List Cell). getD cs t (cell 0 0)) (sym swept-cells) ∙ nth-cell all t in
       subst (λ (x : Cell). Before x (nth all h .cell)) (at g)
-      (subst (Before (getD (matchedTo b hit columns i j) g (cell 0 0))) (at h) (ordered-at (matchedTo b hit columns i j) matched-ordered (cell 0 0) g h l (omega arith)))
+      (subst (Before (getD (matchedTo b hit columns i j) g (cell 0 0))) (at h)
+      (ordered-at (matchedTo b hit columns i j) matched-ordered (cell 0 0) g h l (omega arith)))
 
   -- what a search for the predecessor of (i + 1, c) asks, for any column c after those that are done
   pub swept-before : (c : ℕ) → j < c → Known b (cell (suc i) c) all

@@ -11,7 +11,7 @@ use Rattle.rules.specs.Matches.{cell}
 use Rattle.rules.specs.Chains.{Heaviest}
 use Rattle.rules.specs.Records.{pick}
 use Rattle.rules.specs.Listing.{Before}
-use Rattle.rooms.specs.Layout.{Holds}
+use Rattle.records.specs.Layout.{Holds}
 use Rattle.predecessors.specs.declared.Ring.{Ring}
 use Rattle.predecessors.specs.Numbers.{RingFits, slotOf, numbered, nth}
 

@@ -7,7 +7,7 @@ use lib.Dec.{eqb}
 use lib.ListN.{getD}
 use Rattle.rules.specs.declared.Record.{Record}
 use Rattle.rules.specs.Matches.{cell}
-use Rattle.rooms.specs.Layout.{recordIn}
+use Rattle.records.specs.Layout.{recordIn}
 use Rattle.predecessors.specs.declared.Ring.{Ring}
 
 -- a ring has a slot at least, begins in one of its slots, and is small enough that no sum of slots wraps

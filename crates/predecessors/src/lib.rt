@@ -7,7 +7,7 @@ ghost use Prim.Native.Nat.{_+_, _-_, _*_, _≤_, _<_};
 ghost use lib.Dec.{leb};
 ghost use lib.ListN.{length};
 ghost use Rattle.rules.specs.Records.{beats, better};
-ghost use Rattle.rooms.specs.Layout.{recordIn};
+ghost use Rattle.records.specs.Layout.{recordIn};
 ghost use Rattle.predecessors.specs.Numbers.{slotOf, numbered, RingFits};
 ghost use Rattle.predecessors.specs.Index.{Safe, Found};
 
@@ -65,19 +65,12 @@ fn weigh(room: &[u32], ring: Ring, best: usize, s: usize) -> usize
     if best == 0 {
         return s;
     }
-    let x = rooms::record_at(room, slot(ring, s));
-    let y = rooms::record_at(room, slot(ring, best));
+    let x = records::record_at(room, slot(ring, s));
+    let y = records::record_at(room, slot(ring, best));
     if preferred(x, y) {
         return s;
     }
     best
-}
-
-// The first column that can hold a left extension of a match in column j, or 0.
-pub fn window_start(j: usize, b: usize) -> usize
-    ensures { λ r. ⌜ r ≡ j - b ⌝ }
-{
-    if b < j { j - b } else { 0 }
 }
 
 // What the walk begins with: the nearest match of the row on the left, where the window reaches it.
@@ -114,7 +107,8 @@ pub fn search(
     requires { ⌜ Safe (now room) (now latest) ring j ⌝ }
     ensures { λ r. ⌜ Found (now (room .entry)) (now (latest .entry)) ring tail near column from b j r ⌝ }
 {
-    let low = window_start(j, b);
+    // the first column that can hold a left extension, or 0
+    let low = numbers::minus(j, b);
     let stop = bottom(column, low);
     let mut best = begin(near, column, low);
     let mut top = tail;

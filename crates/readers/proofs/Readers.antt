@@ -8,10 +8,10 @@ use lib.Dec.{eqb}
 use lib.ListN.{length, getD}
 use lib.Seq.{sets}
 use borrow.Author.Tests.{ne-eqb, eqb-true, eqb-false}
-use Rattle.lines.specs.Digits.{isLine, bytesIn}
-use Rattle.lines.specs.Reading.{frameIn, bytesLeft}
-use Rattle.lines.proofs.Decoding.{byte-at}
-use Rattle.lines.proofs.Frames.{count-most, frame-read}
+use Rattle.decoding.specs.Digits.{isLine, bytesIn}
+use Rattle.decoding.specs.Reading.{frameIn, bytesLeft}
+use Rattle.decoding.proofs.Decoding.{byte-at}
+use Rattle.decoding.proofs.Frames.{count-most, frame-read}
 use Rattle.payloads.specs.Numbers.{numberAt}
 use Rattle.payloads.specs.Lines.{kindNumber}
 use Rattle.readers.specs.Readers.{entryIn, doneIn, refusedIn, noEntry, noDone, noRefused, readEntryOf, readDone, readRefused}

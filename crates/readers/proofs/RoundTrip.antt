@@ -8,10 +8,10 @@ use lib.Dec.{ltb, lit<}
 use lib.ListN.{length, take, drop}
 use borrow.Author.Tests.{ltb-true, eq-eqb}
 use Rattle.rules.specs.declared.Settings.{Settings}
-use Rattle.lines.specs.Digits.{bytesIn}
+use Rattle.decoding.specs.Digits.{bytesIn}
 use Rattle.lines.specs.Writing.{checkOf, frameOf, lineOf}
-use Rattle.lines.proofs.Decoding.{and-left, and-right}
-use Rattle.lines.proofs.RoundTrip.{Bytes, bytes-append, line-bytes, line-read, line-unique}
+use Rattle.decoding.proofs.Decoding.{and-left, and-right}
+use Rattle.decoding.proofs.RoundTrip.{Bytes, bytes-append, line-bytes, line-read, line-unique}
 use Rattle.kinds.specs.declared.Entry.{Entry}
 use Rattle.kinds.specs.declared.Done.{Done}
 use Rattle.kinds.specs.declared.Refused.{Refused}

@@ -6,7 +6,7 @@ use Prim.Native.Nat.{ℕ}
 use lib.Dec.{eqb}
 use Rattle.rules.specs.declared.Settings.{Settings}
 use Rattle.rules.specs.Entered.{settings}
-use Rattle.lines.specs.Digits.{bytesIn}
+use Rattle.decoding.specs.Digits.{bytesIn}
 use Rattle.kinds.specs.declared.Entry.{Entry}
 use Rattle.kinds.specs.declared.Done.{Done}
 use Rattle.kinds.specs.declared.Refused.{Refused}

@@ -15,8 +15,8 @@ use Rattle.rules.specs.Records.{pick, recordAfter, recordOf}
 use Rattle.rules.proofs.Tests.{Three, below, equal, above, three}
 use Rattle.rules.proofs.Weights.{Sure, pick-sure}
 use Rattle.rules.proofs.Starts.{record-cell}
-use Rattle.rooms.specs.Layout.{recordIn, Holds, putRecord}
-use Rattle.rooms.proofs.Slots.{put-same, put-other}
+use Rattle.records.specs.Layout.{recordIn, Holds, putRecord}
+use Rattle.records.proofs.Slots.{put-same, put-other}
 use Rattle.predecessors.specs.declared.Ring.{Ring}
 use Rattle.predecessors.specs.Numbers.{slotOf, numbered, nothing, nth}
 use Rattle.predecessors.specs.Index.{InRoom, Ready, Found}
@@ -146,7 +146,8 @@ pub next-none : (room : List ℕ) (ring : Ring) (p : ℕ) (c : Cell) → p ≡ 0
 unfolding nextRecord
 next-none room ring p c e = rw (e, numbered-none room ring)
 
-pub next-some : (room : List ℕ) (ring : Ring) (p : ℕ) (c : Cell) (x : Record) (w : ℕ) → (p ≡ 0 → ⊥) → x ≡ recordIn room (slotOf ring (p - 1)) → w ≡ (x .weight + 1) % 2 ^ 32
+pub next-some : (room : List ℕ) (ring : Ring) (p : ℕ) (c : Cell) (x : Record) (w : ℕ) → (p ≡ 0 → ⊥) → x ≡ recordIn room (slotOf ring (p - 1))
+    → w ≡ (x .weight + 1) % 2 ^ 32
     → record { cell = c; weight = w; start = x .start } ≡ nextRecord c (numbered room ring p)
 unfolding nextRecord
 next-some room ring p c x w h e f = rw (numbered-some room ring p h, ← e, f)
@@ -160,17 +161,20 @@ next-after c (some x) s =
 
 module _ (b i j : ℕ) (room latest : List ℕ) (ring : Ring) (tail head near column from p : ℕ) (s : AddSafe room latest ring head i j)
     (f : Found room latest ring tail near column from b j p) where
-  one-more : (all : List Record) → Ready b i j all room latest ring tail near column from → Light all → nextRecord (cell i j) (numbered room ring p) ≡ recordOf b all (cell i j)
+  one-more : (all : List Record) → Ready b i j all room latest ring tail near column from → Light all
+      → nextRecord (cell i j) (numbered room ring p) ≡ recordOf b all (cell i j)
   unfolding recordOf
   one-more all r l =
       ap (nextRecord (cell i j)) (f .picked i all r)
       ∙ next-after (cell i j) (pick b (cell i j) none all) (pick-sure b (cell i j) (λ x. x .weight + 1 < 2 ^ 32) all none tt (λ x m _. l x m))
 
-  pub add-more : Added b i j room latest ring tail head near column from (putRecord room (slotOf ring head) (nextRecord (cell i j) (numbered room ring p))) (set latest j (head + 1))
+  pub add-more : Added b i j room latest ring tail head near column from (putRecord room (slotOf ring head) (nextRecord (cell i j) (numbered room ring p)))
+      (set latest j (head + 1))
   add-more = record { added = go }
     where
       go : (all : List Record) → Ready b i j all room latest ring tail near column from → length all ≡ head → tail ≤ head → head < tail + ring .size → Light all
-          → Machine b i (all ++ (recordOf b all (cell i j) ∷ [])) (putRecord room (slotOf ring head) (nextRecord (cell i j) (numbered room ring p))) (set latest j (head + 1)) ring tail
+          → Machine b i (all ++ (recordOf b all (cell i j) ∷ [])) (putRecord room (slotOf ring head) (nextRecord (cell i j) (numbered room ring p)))
+          (set latest j (head + 1)) ring tail
       go all r e o k l =
           let x = recordOf b all (cell i j) in
           let ec : x .cell ≡ cell i j = record-cell b all (cell i j) in
@@ -191,11 +195,14 @@ module _ (room new : List ℕ) (ring : Ring) (head p : ℕ) (c : Cell) (t : ℕ)
   slot-is : t ≡ slotOf ring head
   slot-is = et ∙ ap (slotOf ring) (omega arith)
 
-  pub store-none : p ≡ 0 → new ≡ putRecord room t (record { cell = c; weight = 1; start = c }) → new ≡ putRecord room (slotOf ring head) (nextRecord c (numbered room ring p))
-  store-none e f = f ∙ ap (λ (n : ℕ). putRecord room n (record { cell = c; weight = 1; start = c })) slot-is ∙ ap (putRecord room (slotOf ring head)) (next-none room ring p c e)
+  pub store-none : p ≡ 0 → new ≡ putRecord room t (record { cell = c; weight = 1; start = c })
+      → new ≡ putRecord room (slotOf ring head) (nextRecord c (numbered room ring p))
+  store-none e f = f ∙ ap (λ (n : ℕ). putRecord room n (record { cell = c; weight = 1; start = c })) slot-is
+      ∙ ap (putRecord room (slotOf ring head)) (next-none room ring p c e)
 
   pub store-some : (x : Record) (w : ℕ) → (p ≡ 0 → ⊥) → x ≡ recordIn room (slotOf ring (p - 1)) → w ≡ (x .weight + 1) % 2 ^ 32
-      → new ≡ putRecord room t (record { cell = c; weight = w; start = x .start }) → new ≡ putRecord room (slotOf ring head) (nextRecord c (numbered room ring p))
+      → new ≡ putRecord room t (record { cell = c; weight = w; start = x .start })
+      → new ≡ putRecord room (slotOf ring head) (nextRecord c (numbered room ring p))
   store-some x w h e g f =
       f ∙ ap (λ (n : ℕ). putRecord room n (record { cell = c; weight = w; start = x .start })) slot-is
       ∙ ap (putRecord room (slotOf ring head)) (next-some room ring p c x w h e g)

@@ -45,12 +45,14 @@ module _ (b : ℕ) (hit : Cell → Bool) (columns k : ℕ) where
   swept-grows j = go (hit (cell (suc k) (suc j))) refl
     where
       go : (t : Bool) → hit (cell (suc k) (suc j)) ≡ t → length (sweptTo b hit columns k j) ≤ length (sweptTo b hit columns k (suc j))
-      go true e = let l = ap length (swept-hit b hit columns k j e) in let s = length-snoc (sweptTo b hit columns k j) (recordOf b (sweptTo b hit columns k j) (cell (suc k) (suc j))) in omega arith
+      go true e = let l = ap length (swept-hit b hit columns k j e) in
+          let s = length-snoc (sweptTo b hit columns k j) (recordOf b (sweptTo b hit columns k j) (cell (suc k) (suc j))) in omega arith
       go false e = let l = ap length (swept-miss b hit columns k j e) in omega arith
 
   pub swept-to : (j p : ℕ) → j ≤ p → length (sweptTo b hit columns k j) ≤ length (sweptTo b hit columns k p)
   swept-to j p h =
-      le-ind (λ (m : ℕ). length (sweptTo b hit columns k j) ≤ length (sweptTo b hit columns k m)) (le-refl _) (λ m _ e. (let g = swept-grows m in omega arith)) p h
+      le-ind (λ (m : ℕ). length (sweptTo b hit columns k j) ≤ length (sweptTo b hit columns k m)) (le-refl _)
+      (λ m _ e. (let g = swept-grows m in omega arith)) p h
 
   -- the next match adds its record
   pub next-more : (column j : ℕ) → column < j → hit (cell (suc k) j) ≡ true → ((q : ℕ) → column < q → q < j → hit (cell (suc k) q) ≡ false)
@@ -60,7 +62,8 @@ module _ (b : ℕ) (hit : Cell → Bool) (columns k : ℕ) where
       swept-hit b hit columns k j t
       ∙ ap (λ (all : List Record). all ++ (recordOf b all (cell (suc k) (suc j)) ∷ [])) (swept-over column j (omega arith) (λ q a c. f q a (omega arith)))
 
-  module _ (room latest : List ℕ) (ring : Ring) (tail head near column from j : ℕ) (v : RowState b hit columns k room latest ring tail head near column from j) (w : RowFits b hit columns k ring tail) where
+  module _ (room latest : List ℕ) (ring : Ring) (tail head near column from j : ℕ) (v : RowState b hit columns k room latest ring tail head near column from j)
+      (w : RowFits b hit columns k ring tail) where
     abbrev all : List Record
     all = sweptTo b hit columns k column
 
@@ -87,7 +90,8 @@ module _ (b : ℕ) (hit : Cell → Bool) (columns k : ℕ) where
         let i = v .inside in
         go x p u (three (x .cell .row) (suc k))
       where
-        go : (x : Record) → Place b hit columns k column (x .cell) → x .weight ≤ x .cell .row + x .cell .column → Three (x .cell .row) (suc k) → x .weight + 1 < 2 ^ 32
+        go : (x : Record) → Place b hit columns k column (x .cell) → x .weight ≤ x .cell .row + x .cell .column → Three (x .cell .row) (suc k)
+            → x .weight + 1 < 2 ^ 32
         go x p u (below z) = let c = p .low (omega arith) in let t = w .tall in let n = w .narrow in omega arith
         go x p u (equal z) = let c = p .own z in let t = w .tall in let n = w .narrow in let i = v .inside in omega arith
         go x p u (above z) = let c = p .row-to in absurd (omega arith)
@@ -143,13 +147,22 @@ module _ (b : ℕ) (hit : Cell → Bool) (columns k : ℕ) where
                 let eh = ap (λ (r : Record). r .cell .row) (at-old h q) in
                 let u = v .late g h fg (omega arith) (omega arith) (omega arith) in
                 omega arith
-            go (equal p) q = let a = ap (λ (t : ℕ). nth (sweptTo b hit columns k j) t .cell .row) p ∙ ap (λ (r : Record). r .cell .row) at-new ∙ x-row in omega arith
+            go (equal p) q = let a = ap (λ (t : ℕ). nth (sweptTo b hit columns k j) t .cell .row) p ∙ ap (λ (r : Record). r .cell .row) at-new
+                ∙ x-row in omega arith
             go (above p) q = absurd (let n = count-more in omega arith)
-            go (below p) (equal q) = absurd (let a = ap (λ (t : ℕ). nth (sweptTo b hit columns k j) t .cell .row) q ∙ ap (λ (r : Record). r .cell .row) at-new ∙ x-row in omega arith)
+            go (below p) (equal q) = absurd
+                (let a = ap (λ (t : ℕ). nth (sweptTo b hit columns k j) t .cell .row) q ∙ ap (λ (r : Record). r .cell .row) at-new ∙ x-row in omega arith)
             go (below p) (above q) = absurd (let n = count-more in omega arith)
 
         turn : RowState b hit columns k room′ latest′ ring tail (head + 1) (head + 1) j from (getD nexts (j - 1) 0)
-        turn = record { machine = machine-more; counted = count-more; nearest = nearest-more; late = late-more; leads = follow hit (suc k) columns start nexts lists j nz t; inside = c }
+        turn = record {
+          machine = machine-more;
+          counted = count-more;
+          nearest = nearest-more;
+          late = late-more;
+          leads = follow hit (suc k) columns start nexts lists j nz t;
+          inside = c;
+        }
 
       pub row-turn : RowState b hit columns k room′ latest′ ring tail (head + 1) (head + 1) j from (getD nexts (j - 1) 0)
       row-turn = go (v .leads)
@@ -167,7 +180,8 @@ module _ (b : ℕ) (hit : Cell → Bool) (columns k : ℕ) where
         go (next-is l c t f) = absurd (omega arith)
 
 -- the loop's invariant
-pub record RowInv (b i : ℕ) (room₀ latest₀ nexts : List ℕ) (ring : Ring) (tail head₀ from start : ℕ) (room latest : List ℕ) (head near column j : ℕ) : Type 0 where
+pub record RowInv (b i : ℕ) (room₀ latest₀ nexts : List ℕ) (ring : Ring) (tail head₀ from start : ℕ) (room latest : List ℕ)
+    (head near column j : ℕ) : Type 0 where
   pub long : length room ≡ length room₀
   pub wide : length latest ≡ length latest₀
   pub more : head₀ ≤ head
@@ -182,7 +196,16 @@ module _ {b i : ℕ} {room₀ latest₀ nexts : List ℕ} {ring : Ring} {tail he
   pub row-start : RowInv b i room₀ latest₀ nexts ring tail head₀ from start room₀ latest₀ head₀ 0 0 start
   row-start =
       let g = s .begin in
-      record { long = refl; wide = refl; more = omega arith; few = omega arith; in-column = omega arith; in-j = omega arith; ahead = λ h. h; state = λ hit columns k e l f v. v }
+      record {
+        long = refl;
+        wide = refl;
+        more = omega arith;
+        few = omega arith;
+        in-column = omega arith;
+        in-j = omega arith;
+        ahead = λ h. h;
+        state = λ hit columns k e l f v. v;
+      }
 
   module _ {room latest : List ℕ} {head near column j : ℕ} (v : RowInv b i room₀ latest₀ nexts ring tail head₀ from start room latest head near column j) where
     pub row-add : (j ≡ 0 → ⊥) → AddSafe room latest ring head i j
@@ -198,7 +221,8 @@ module _ {b i : ℕ} {room₀ latest₀ nexts : List ℕ} {ring : Ring} {tail he
         record { fits = s .fits; room-for = omega arith; inside = omega arith; narrow = omega arith; tall = s .tall; few = omega arith }
 
     pub row-next : {room′ latest′ : List ℕ} → (j ≡ 0 → ⊥) → length room′ ≡ length room → length latest′ ≡ length latest
-        → Added b i j room latest ring tail head near column from room′ latest′ → RowInv b i room₀ latest₀ nexts ring tail head₀ from start room′ latest′ (head + 1) (head + 1) j (getD nexts (j - 1) 0)
+        → Added b i j room latest ring tail head near column from room′ latest′
+        → RowInv b i room₀ latest₀ nexts ring tail head₀ from start room′ latest′ (head + 1) (head + 1) j (getD nexts (j - 1) 0)
     row-next {room′} {latest′} nz el ew d =
         let vl = v .long in
         let vw = v .wide in

@@ -6,7 +6,7 @@ ghost use mathlib.Core.Path.{_≡_};
 ghost use Prim.Native.Nat.{_+_, _*_, _^_, _≤_, _<_};
 ghost use lib.ListN.{length};
 ghost use Rattle.rules.specs.Matches.{cell};
-ghost use Rattle.rooms.specs.Layout.{putRecord};
+ghost use Rattle.records.specs.Layout.{putRecord};
 ghost use Rattle.predecessors.specs.Numbers.{RingFits, slotOf, numbered};
 ghost use Rattle.rows.specs.Machine.{nextRecord, AddSafe, Added};
 ghost use Rattle.rows.specs.Rows.{RowSafe, RowDone};
@@ -27,10 +27,10 @@ fn store(room: &mut [u32], ring: Ring, head: usize, p: usize, i: u32, j: u32)
             weight: 1,
             start: here,
         };
-        rooms::put_record(room, s, alone);
+        records::put_record(room, s, alone);
         return;
     }
-    let x = rooms::record_at(room, predecessors::slot(ring, p));
+    let x = records::record_at(room, predecessors::slot(ring, p));
     let weight = std::num::wrapping_add_u32(x.weight, 1);
     let start = x.start;
     let next = Record {
@@ -38,7 +38,7 @@ fn store(room: &mut [u32], ring: Ring, head: usize, p: usize, i: u32, j: u32)
         weight,
         start,
     };
-    rooms::put_record(room, s, next);
+    records::put_record(room, s, next);
 }
 
 // Finds the predecessor of the match (i, j) and stores its record.
@@ -90,7 +90,7 @@ pub fn store_row(
         near = h;
         column = j;
         let p = j - 1;
-        j = casts::wide(nexts[p]);
+        j = numbers::wide(nexts[p]);
     }
     h
 }

@@ -16,7 +16,8 @@ use Rattle.rules.specs.Matches.{Cell, cell, isMatch, rowTo, matchesTo, m
 use Rattle.rules.specs.Chains.{leftExtension, one}
 use Rattle.rules.specs.Rooms.{inRun, largestRun, pairs, workNeed, linkTotal}
 use Rattle.rules.proofs.Tests.{tests, by-test, tested}
-use Rattle.rules.proofs.ListLaws.{empty, countTo-mono, countTo-hit, countTo-some, largestTo-le, count-append, count-length, count-none, count-more, sumOf-le}
+use Rattle.rules.proofs.ListLaws.{empty, countTo-mono, countTo-hit, countTo-some, largestTo-le, count-append, count-length, count-none}
+use Rattle.rules.proofs.ListLaws.{count-more, sumOf-le}
 use Rattle.rules.proofs.LeftExtensions.{extend-facts, not-self}
 use Rattle.rules.proofs.MatchList.{Inside, row-in, row-has}
 use Rattle.rules.proofs.Kmers.{kmer-place, same-sym, same-self}
@@ -45,8 +46,13 @@ pub few-matches : (hit : Cell → Bool) (columns n : ℕ) → length (matchesTo 
 unfolding matchesTo
 few-matches hit columns zero = omega arith
 few-matches hit columns (suc n) =
-    omega
-    (arith, length-append (matchesTo hit columns n) (rowTo hit (suc n) columns), few-matches hit columns n, row-length hit (suc n) columns, count-to (λ k. hit (cell (suc n) k)) columns)
+    omega (
+      arith,
+      length-append (matchesTo hit columns n) (rowTo hit (suc n) columns),
+      few-matches hit columns n,
+      row-length hit (suc n) columns,
+      count-to (λ k. hit (cell (suc n) k)) columns,
+    )
 
 -- ---- rows max(1, i - b) to i of the rows 1 to n, and so for columns
 
@@ -186,7 +192,8 @@ module _ (c : Settings) (s t : List ℕ) where
       let p = le-trans (count-length box (rowTo hit n columns)) (row-few c s t n) in
       let q = cols-most hit box b (y .column) n (λ x u. let g = simp (inBox, tests) at u in (omega arith, omega arith)) columns in
       omega arith in
-      let all = box-most hit columns box (min (c .a - 1) (c .b + 1)) b (y .row) few (λ x u. let g = simp (inBox, tests) at u in (omega arith, omega arith)) (places (c .k) s) in
+      let all = box-most hit columns box (min (c .a - 1) (c .b + 1)) b (y .row) few (λ x u. let g = simp (inBox, tests) at u in (omega arith, omega arith))
+      (places (c .k) s) in
       let one =
       count-more (λ x. leftExtension b x y) box y (matches c s t)
       (λ x u. let g = extend-facts b x y u in simp (inBox, tests) (omega arith)) (not-self b y) (simp (inBox, tests) (omega arith)) m in
@@ -202,7 +209,12 @@ module _ (c : Settings) (s t : List ℕ) where
     where
       none-in : (i j : ℕ) → Inside (isMatch c s t) (places (c .k) t) (places (c .k) s) (cell i j) → ⊥
       none-in i j h =
-          omega (arith, row-few c s t i, member-length (rowTo (isMatch c s t) i (places (c .k) t)) (row-has (isMatch c s t) i (places (c .k) t) j (h .is-hit) (h .column-from) (h .column-to)))
+          omega (
+            arith,
+            row-few c s t i,
+            member-length (rowTo (isMatch c s t) i (places (c .k) t))
+                (row-has (isMatch c s t) i (places (c .k) t) j (h .is-hit) (h .column-from) (h .column-to)),
+          )
 
   pub no-links : c .a ≡ 1 → linkTotal c s t ≡ 0
   unfolding linkTotal pairs sumOf

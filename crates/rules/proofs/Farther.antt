@@ -9,7 +9,8 @@ use native.Mathlib.Omega.{arith}
 use lib.Dec.{T}
 use Rattle.rules.specs.declared.Settings.{Settings}
 use Rattle.rules.specs.Matches.{Cell, cell, isMatch}
-use Rattle.rules.specs.Chains.{more, Heaviest, Preferred, heavier, smaller-column, smaller-row, same-one, Predecessor, LeftExtension, AtOrBeyond, PreferredByColumn, weighs-more, lies-left, is-itself, PredecessorByColumn}
+use Rattle.rules.specs.Chains.{more, Heaviest, Preferred, heavier, smaller-column, smaller-row, same-one, Predecessor, LeftExtension}
+use Rattle.rules.specs.Chains.{AtOrBeyond, PreferredByColumn, weighs-more, lies-left, is-itself, PredecessorByColumn}
 use Rattle.rules.specs.Records.{Record}
 use Rattle.rules.specs.Rooms.{held, Held}
 use Rattle.rules.proofs.Tests.{Three, three, below, equal, above}
@@ -139,7 +140,8 @@ module _ {b : ℕ} {hit : Cell → Bool} {c x y : Cell} (p : Predecessor b hit c
 
 -- ---- what a sweep holds after a row
 
-module _ (c : Settings) (first second : List ℕ) (r : ℕ) (x y : Record) (mx : List·Memᴰ x (held c first second r)) (my : List·Memᴰ y (held c first second r)) where
+module _ (c : Settings) (first second : List ℕ) (r : ℕ) (x y : Record) (mx : List·Memᴰ x (held c first second r))
+    (my : List·Memᴰ y (held c first second r)) where
   -- both are left extensions of the cell on the right of the later, a match or not
   pub latest-held : x .cell .column ≡ y .cell .column → x .cell .row ≤ y .cell .row → (x .weight < y .weight) ⊎ (x .cell ≡ y .cell)
   latest-held e h = go (three (x .cell .row) (y .cell .row))

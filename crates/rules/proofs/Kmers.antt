@@ -5,7 +5,7 @@ use mathlib.Core.Logic.{_⊎_, inl, inr}
 use mathlib.Core.Bool.{true, _&&_}
 use mathlib.Core.Option.{Option, none, some}
 use mathlib.Core.List.{List, [], _∷_, _++_}
-use Prim.Native.Nat.{ℕ, zero, suc, _+_, _-_, _*_, _≤_, _<_}
+use Prim.Native.Nat.{ℕ, zero, suc, _+_, _*_, _≤_, _<_}
 use native.Mathlib.Omega.{arith}
 use lib.Dec.{T, leb, ltb, eqb}
 use lib.ListN.{length, getD, length-append, length-take, length-drop, List·getD-append, List·getD-eq-default}
@@ -221,7 +221,8 @@ eqb-sym m n = go (tested (eqb m n)) (tested (eqb n m))
 same-sides : (x : List ℕ) (o : Option (List ℕ)) → sameKmer (some x) o ≡ sameKmer o (some x)
 same-sides x o = go (tested (sameKmer (some x) o)) (tested (sameKmer o (some x)))
   where
-    go : T (sameKmer (some x) o) ⊎ (¬ T (sameKmer (some x) o)) → T (sameKmer o (some x)) ⊎ (¬ T (sameKmer o (some x))) → sameKmer (some x) o ≡ sameKmer o (some x)
+    go : T (sameKmer (some x) o) ⊎ (¬ T (sameKmer (some x) o)) → T (sameKmer o (some x)) ⊎ (¬ T (sameKmer o (some x)))
+        → sameKmer (some x) o ≡ sameKmer o (some x)
     go (inl p) (inl q) = T-true (sameKmer (some x) o) p ∙ sym (T-true (sameKmer o (some x)) q)
     go (inr p) (inr q) = T-false (sameKmer (some x) o) p ∙ sym (T-false (sameKmer o (some x)) q)
     go (inl p) (inr q) = absurd (q (same-sym (some x) o p))

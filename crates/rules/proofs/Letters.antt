@@ -70,4 +70,5 @@ complement-code x = code-of-letter (reversedBits (codeOf x)) (reversed-small (co
 
 pub complement-twice : (x : ℕ) → 0 < codeOf x → complement (complement x) ≡ x
 unfolding complement
-complement-twice x h = ap (λ (c : ℕ). letterOf (reversedBits c)) (complement-code x) ∙ ap letterOf (reversed-twice (codeOf x) (code-small x)) ∙ letter-of-code x h
+complement-twice x h = ap (λ (c : ℕ). letterOf (reversedBits c)) (complement-code x) ∙ ap letterOf (reversed-twice (codeOf x) (code-small x))
+    ∙ letter-of-code x h

@@ -142,7 +142,8 @@ module _ {A : Type 0} (f : A → Bool) where
   pub count-length : (xs : List A) → count f xs ≤ length xs
   unfolding count
   count-length [] = zero-le
-  count-length (x ∷ xs) = by-test (λ (m : ℕ). count f xs + m ≤ suc (length xs)) (f x) 1 0 (λ _. omega (arith, count-length xs)) (λ _. omega (arith, count-length xs))
+  count-length (x ∷ xs) = by-test (λ (m : ℕ). count f xs + m ≤ suc (length xs)) (f x) 1 0 (λ _. omega (arith, count-length xs))
+      (λ _. omega (arith, count-length xs))
 
   pub count-none : (xs : List A) → ((x : A) → List·Memᴰ x xs → ¬ T (f x)) → count f xs ≡ 0
   unfolding count
@@ -213,7 +214,8 @@ unfolding laid
 laid-in g [] y m = absurd (List·Memᴰ·not-nil m)
 laid-in {A} {B} g (x ∷ xs) y m = go (List·Memᴰ·append-cases (g x) m) (laid-in g xs y)
   where
-    go : List·Memᴰ y (g x) ⊎ List·Memᴰ y (laid g xs) → (List·Memᴰ y (laid g xs) → (z : A) × List·Memᴰ z xs × List·Memᴰ y (g z)) → (z : A) × List·Memᴰ z (x ∷ xs) × List·Memᴰ y (g z)
+    go : List·Memᴰ y (g x) ⊎ List·Memᴰ y (laid g xs) → (List·Memᴰ y (laid g xs) → (z : A) × List·Memᴰ z xs × List·Memᴰ y (g z))
+        → (z : A) × List·Memᴰ z (x ∷ xs) × List·Memᴰ y (g z)
     go (inl n) ih = (x, List·Memᴰ·head refl, n)
     go (inr n) ih = let r = ih n in (r .0, List·Memᴰ·tail (r .1), r .2)
 

@@ -100,7 +100,11 @@ module _ (c : Settings) (s t : List ℕ) where
   is-listed : (x : Record) → T (isListed c (matches c s t) x)
       ↔ (Closed (c .b) (isMatch c s t) (x .cell) × (c .m ≤ firstSpan (c .k) (x .start) (x .cell)) × (c .m ≤ secondSpan (c .k) (x .start) (x .cell)))
   unfolding isListed longEnough
-  is-listed x = (λ u. let h = simp (T-and, T-leb) at u in (closed-is (x .cell) .0 (h .0), h .1 .0, h .1 .1), λ h. simp (T-and, T-leb) (closed-is (x .cell) .1 (h .0), (h .1, h .2)))
+  is-listed x = (
+    λ u. let h = simp (T-and, T-leb) at u in
+        (closed-is (x .cell) .0 (h .0), h .1 .0, h .1 .1),
+    λ h. simp (T-and, T-leb) (closed-is (x .cell) .1 (h .0), (h .1, h .2)),
+  )
 
   -- the record of a match is the one with its heaviest weight and its start
   record-is : (y p : Cell) (w : ℕ) → T (isMatch c s t y) → Heaviest (c .b) (isMatch c s t) y w → Start (c .b) (isMatch c s t) y p

@@ -2,7 +2,8 @@
 use mathlib.Core.Path.{_≡_, refl, ap, subst, subst⁻¹}
 use mathlib.Core.Logic.{_⊎_, inl, inr}
 use mathlib.Core.Bool.{Bool, cond}
-use mathlib.Core.List.{List, [], _∷_, _++_, map, List·Memᴰ, List·Memᴰ·head, List·Memᴰ·tail, List·Memᴰ·not-nil, List·Memᴰ·append-cases, Memᴰ·append-left, Memᴰ·append-right, List·Memᴰ·eq-of-singleton, Memᴰ·cast, Memᴰ·map, Memᴰ·of-map}
+use mathlib.Core.List.{List, [], _∷_, _++_, map, List·Memᴰ, List·Memᴰ·head, List·Memᴰ·tail, List·Memᴰ·not-nil, List·Memᴰ·append-cases}
+use mathlib.Core.List.{Memᴰ·append-left, Memᴰ·append-right, List·Memᴰ·eq-of-singleton, Memᴰ·cast, Memᴰ·map, Memᴰ·of-map}
 use Prim.Native.Nat.{ℕ, zero, suc, _≤_}
 use native.Mathlib.Nat.{le-trans, not-suc-le-zero}
 use native.Mathlib.Omega.{arith}
@@ -106,7 +107,8 @@ module _ (hit : Cell → Bool) where
     matches-in zero y m = absurd (List·Memᴰ·not-nil m)
     matches-in (suc i) y m = go (matches-in i y) (List·Memᴰ·append-cases (matchesTo hit columns i) m)
       where
-        go : (List·Memᴰ y (matchesTo hit columns i) → Inside i y) → List·Memᴰ y (matchesTo hit columns i) ⊎ List·Memᴰ y (rowTo hit (suc i) columns) → Inside (suc i) y
+        go : (List·Memᴰ y (matchesTo hit columns i) → Inside i y)
+            → List·Memᴰ y (matchesTo hit columns i) ⊎ List·Memᴰ y (rowTo hit (suc i) columns) → Inside (suc i) y
         go ih (inl n) =
             let h = ih n in
             record { is-hit = h .is-hit; row-from = h .row-from; row-to = omega (arith, h); column-from = h .column-from; column-to = h .column-to }
@@ -119,7 +121,8 @@ module _ (hit : Cell → Bool) where
     matches-has zero y h = absurd (not-suc-le-zero (le-trans (h .row-from) (h .row-to)))
     matches-has (suc i) y h = go (matches-has i y) (to-suc (y .row) i (h .row-to))
       where
-        go : (Inside i y → List·Memᴰ y (matchesTo hit columns i)) → (y .row ≤ i) ⊎ (y .row ≡ suc i) → List·Memᴰ y (matchesTo hit columns i ++ rowTo hit (suc i) columns)
+        go : (Inside i y → List·Memᴰ y (matchesTo hit columns i)) → (y .row ≤ i) ⊎ (y .row ≡ suc i)
+            → List·Memᴰ y (matchesTo hit columns i ++ rowTo hit (suc i) columns)
         go ih (inl l) =
             Memᴰ·append-left _
             (ih (record { is-hit = h .is-hit; row-from = h .row-from; row-to = l; column-from = h .column-from; column-to = h .column-to }))

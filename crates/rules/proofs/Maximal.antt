@@ -50,7 +50,8 @@ module _ (b : ℕ) (hit : Cell → Bool) (c : Cell) where
           at y t e =
               let er : c .row + (y .row - c .row) ≡ y .row = omega (arith, e .row-le) in
               let ec : c .column + (y .column - c .column) ≡ y .column = omega (arith, e .column-le) in
-              h (y .row - c .row) (y .column - c .column) (omega (arith, e .row-near)) (omega (arith, e .column-near)) (omega (arith, e .moved, e .row-le, e .column-le))
+              h (y .row - c .row) (y .column - c .column) (omega (arith, e .row-near)) (omega (arith, e .column-near))
+              (omega (arith, e .moved, e .row-le, e .column-le))
               (subst (λ (z : Cell). T (hit z)) (sym (same-cell er ec)) t)
 
   -- ---- right-maximal
@@ -101,14 +102,16 @@ module _ (c : Settings) (s t : List ℕ) where
   Carried p y n = (z : Cell) × (m : ℕ) × (h : Chain (c .b) hit p z m) × Through y h × (n ≤ m) × Closed (c .b) hit z
 
   -- each step is nearer to the last row and the last column
-  carry-on : (fuel : ℕ) (p x y : Cell) (n m : ℕ) (h : Chain (c .b) hit p y m) → Through x h → n ≤ m → places (c .k) s + places (c .k) t < y .row + y .column + fuel
+  carry-on : (fuel : ℕ) (p x y : Cell) (n m : ℕ) (h : Chain (c .b) hit p y m) → Through x h → n ≤ m
+      → places (c .k) s + places (c .k) t < y .row + y .column + fuel
       → Carried p x n
   unfolding closed
   carry-on zero p x y n m h q l f = let i = match-inside c s t y (chain-hit h) in absurd (omega (arith, i .row-to, i .column-to))
   carry-on (suc fuel) p x y n m h q l f = go (tested (anyOf (leftExtension (c .b) y) (matches c s t))) (λ z. carry-on fuel p x z n (suc m))
     where
       go : T (anyOf (leftExtension (c .b) y) (matches c s t)) ⊎ (¬ T (anyOf (leftExtension (c .b) y) (matches c s t)))
-          → ((z : Cell) (g : Chain (c .b) hit p z (suc m)) → Through x g → n ≤ suc m → places (c .k) s + places (c .k) t < z .row + z .column + fuel → Carried p x n)
+          → ((z : Cell) (g : Chain (c .b) hit p z (suc m)) → Through x g → n ≤ suc m
+          → places (c .k) s + places (c .k) t < z .row + z .column + fuel → Carried p x n)
           → Carried p x n
       go (inl u) on =
           let (z, mz, e) = any-some (leftExtension (c .b) y) (matches c s t) u in

@@ -3,14 +3,16 @@ use mathlib.Core.Path.{_≡_, refl, sym, ap, subst, subst⁻¹, _∙_}
 use mathlib.Core.Logic.{_⊎_, inl, inr}
 use mathlib.Core.Bool.{Bool}
 use mathlib.Core.Option.{Option, none, some}
-use mathlib.Core.List.{List, [], _∷_, _++_, List·Memᴰ, List·Memᴰ·head, List·Memᴰ·tail, List·Memᴰ·not-nil, List·Memᴰ·cases-cons, List·Memᴰ·append-cases, List·Memᴰ·eq-of-singleton, append-nil, append-assoc}
+use mathlib.Core.List.{List, [], _∷_, _++_, List·Memᴰ, List·Memᴰ·head, List·Memᴰ·tail, List·Memᴰ·not-nil, List·Memᴰ·cases-cons}
+use mathlib.Core.List.{List·Memᴰ·append-cases, List·Memᴰ·eq-of-singleton, append-nil, append-assoc}
 use Prim.Native.Nat.{ℕ, zero, suc, _≤_}
 use native.Mathlib.Nat.{le-refl, le-antisymm}
 use native.Mathlib.Omega.{arith}
 use lib.Arith.{le-zero}
 use lib.Dec.{T}
 use Rattle.rules.specs.Matches.{Cell}
-use Rattle.rules.specs.Chains.{leftExtension, Chain, one, more, Heaviest, Preferred, heavier, smaller-column, smaller-row, same-one, Predecessor, Start, itself, through}
+use Rattle.rules.specs.Chains.{leftExtension, Chain, one, more, Heaviest, Preferred, heavier, smaller-column, smaller-row, same-one}
+use Rattle.rules.specs.Chains.{Predecessor, Start, itself, through}
 use Rattle.rules.specs.Records.{Record, beats, consider, pick, recordAfter, recordOf, recordsFrom}
 use Rattle.rules.specs.Listing.{Before, Ordered}
 use Rattle.rules.proofs.Tests.{T-false, Three, three, below, equal, above}
@@ -47,7 +49,8 @@ record-cell b xs c = go (pick b c none xs)
     go (some x) = refl
 
 -- the records after acc are those of the matches, one for each
-pub sweep-rest : (b : ℕ) (ys : List Cell) (acc : List Record) → (rest : List Record) × (recordsFrom b acc ys ≡ acc ++ rest) × ((x : Record) → List·Memᴰ x rest → List·Memᴰ (x .cell) ys)
+pub sweep-rest : (b : ℕ) (ys : List Cell) (acc : List Record)
+    → (rest : List Record) × (recordsFrom b acc ys ≡ acc ++ rest) × ((x : Record) → List·Memᴰ x rest → List·Memᴰ (x .cell) ys)
 unfolding recordsFrom
 sweep-rest b [] acc = ([], sym (append-nil acc), λ x m. absurd (List·Memᴰ·not-nil m))
 sweep-rest b (y ∷ ys) acc =
@@ -55,7 +58,8 @@ sweep-rest b (y ∷ ys) acc =
     let (rest, e, f) = sweep-rest b ys (acc ++ (z ∷ [])) in
     (z ∷ rest, e ∙ append-assoc acc (z ∷ []) rest, λ x m. go rest f x (List·Memᴰ·cases-cons m))
   where
-    go : (rest : List Record) → ((x : Record) → List·Memᴰ x rest → List·Memᴰ (x .cell) ys) → (x : Record) → (x ≡ recordOf b acc y) ⊎ List·Memᴰ x rest → List·Memᴰ (x .cell) (y ∷ ys)
+    go : (rest : List Record) → ((x : Record) → List·Memᴰ x rest → List·Memᴰ (x .cell) ys) → (x : Record) → (x ≡ recordOf b acc y) ⊎ List·Memᴰ x rest
+        → List·Memᴰ (x .cell) (y ∷ ys)
     go rest f x (inl q) = List·Memᴰ·head (ap (λ (w : Record). w .cell) q ∙ record-cell b acc y)
     go rest f x (inr m) = List·Memᴰ·tail (f x m)
 

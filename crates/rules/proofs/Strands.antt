@@ -10,6 +10,7 @@ use lib.Dec.{T, eqb}
 use lib.ListN.{length, take, drop, length-append, length-map, length-take, length-drop, take-append-drop}
 use lib.Seq.{take-at, drop-at}
 use Rattle.rules.specs.declared.Settings.{Settings}
+use Rattle.rules.specs.Entered.{forward, both}
 use Rattle.rules.specs.Lists.{largestOf, laid}
 use Rattle.rules.specs.Letters.{codeOf, complement, reverseComplement, badFrom, badPlace}
 use Rattle.rules.specs.Places.{places, lettersAt}
@@ -17,7 +18,8 @@ use Rattle.rules.specs.Matches.{Cell, isMatch, matches}
 use Rattle.rules.specs.Records.{Record, records}
 use Rattle.rules.specs.Listing.{ends, entryNumbers, isListed, listing}
 use Rattle.rules.specs.Rooms.{matchTotal, workNeed, linkTotal}
-use Rattle.rules.specs.Strands.{onStrand, strands, turned, reverseNumbers, strandNumbers, strandEntries, entries, ReadsTurned, Within, matchSum, largerNeed, linkSum}
+use Rattle.rules.specs.Strands.{onStrand, strands, turned, reverseNumbers, strandNumbers, strandEntries, entries, ReadsTurned, Within, matchSum}
+use Rattle.rules.specs.Strands.{largerNeed, linkSum}
 use Rattle.rules.proofs.Tests.{tests}
 use Rattle.rules.proofs.Letters.{complement-twice}
 use Rattle.rules.proofs.Kmers.{kmer-letters}
@@ -70,7 +72,8 @@ place-twice letters p h = omega arith
 -- ---- letters at a place
 
 -- the k letters at place j of the turned sequence are the turned letters at the place that is reported for the last of them
-pub letters-turned : (k : ℕ) (t : List ℕ) (j : ℕ) → 1 ≤ j → j + k ≤ suc (length t) → lettersAt k (reverseComplement t) j ≡ reverseComplement (lettersAt k t (turned (length t) (j + k - 1)))
+pub letters-turned : (k : ℕ) (t : List ℕ) (j : ℕ) → 1 ≤ j → j + k ≤ suc (length t)
+    → lettersAt k (reverseComplement t) j ≡ reverseComplement (lettersAt k t (turned (length t) (j + k - 1)))
 unfolding lettersAt turned
 letters-turned k t j h l =
     let n = length t + 1 - (j + k - 1) - 1 in
@@ -101,7 +104,8 @@ end-row : (i k : ℕ) → 1 ≤ i → i + k - 1 + 1 - k ≡ i
 end-row i k h = omega arith
 
 module _ (c : Settings) (s t : List ℕ) where
-  turned-match : (y : Cell) → T (isMatch c s (reverseComplement t) y) → lettersAt (c .k) s (y .row) ≡ reverseComplement (lettersAt (c .k) t (turned (length t) (y .column + c .k - 1)))
+  turned-match : (y : Cell) → T (isMatch c s (reverseComplement t) y)
+      → lettersAt (c .k) s (y .row) ≡ reverseComplement (lettersAt (c .k) t (turned (length t) (y .column + c .k - 1)))
   unfolding places
   turned-match y h =
       let i = match-inside c s (reverseComplement t) y h in
@@ -226,12 +230,6 @@ module _ (c : Settings) (s t : List ℕ) where
   entries-size = all-sizes (strands c)
 
 -- the forward part of a job over both strands is the forward job
-abbrev pub forward : ℕ → ℕ → ℕ → ℕ → Settings
-forward k b a m = record { k = k; b = b; a = a; m = m; strand = 0 }
-
-abbrev pub both : ℕ → ℕ → ℕ → ℕ → Settings
-both k b a m = record { k = k; b = b; a = a; m = m; strand = 1 }
-
 module _ (k b a m : ℕ) (s t : List ℕ) where
   same-entries : strandEntries (both k b a m) s t 0 ≡ strandEntries (forward k b a m) s t 0
   unfolding strandEntries listing records matches
@@ -240,4 +238,5 @@ module _ (k b a m : ℕ) (s t : List ℕ) where
   pub forward-first : entries (both k b a m) s t ≡ entries (forward k b a m) s t ++ strandEntries (both k b a m) s t 1
   unfolding entries strands laid
   forward-first =
-      ap₂ {C = List (List ℕ)} (λ x y. x ++ y) (same-entries ∙ sym (append-nil (strandEntries (forward k b a m) s t 0))) (append-nil (strandEntries (both k b a m) s t 1))
+      ap₂ {C = List (List ℕ)} (λ x y. x ++ y) (same-entries ∙ sym (append-nil (strandEntries (forward k b a m) s t 0)))
+      (append-nil (strandEntries (both k b a m) s t 1))

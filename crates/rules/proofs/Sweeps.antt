@@ -4,7 +4,8 @@ use mathlib.Core.Path.{_≡_, refl, sym, ap, subst, _∙_}
 use mathlib.Core.Logic.{_⊎_, inl, inr}
 use mathlib.Core.Bool.{Bool, true, false, cond}
 use mathlib.Core.Option.{Option, none}
-use mathlib.Core.List.{List, [], _∷_, _++_, List·Memᴰ, List·Memᴰ·head, List·Memᴰ·tail, List·Memᴰ·not-nil, List·Memᴰ·append-cases, List·Memᴰ·eq-of-singleton, Memᴰ·map, append-nil, append-assoc}
+use mathlib.Core.List.{List, [], _∷_, _++_, List·Memᴰ, List·Memᴰ·head, List·Memᴰ·tail, List·Memᴰ·not-nil, List·Memᴰ·append-cases}
+use mathlib.Core.List.{List·Memᴰ·eq-of-singleton, Memᴰ·map, append-nil, append-assoc}
 use Prim.Native.Nat.{ℕ, suc, _≤_, _<_}
 use native.Mathlib.Nat.{le-refl, le-of-eq, le-trans}
 use native.Mathlib.Decide.{le-ind}
@@ -132,13 +133,15 @@ module _ (b : ℕ) (hit : Cell → Bool) (columns : ℕ) where
       ap (keep f) (swept-hit i j e)
       ∙ keep-append f (sweptTo i j) (z ∷ [])
       ∙ ap (λ (l : List Record). keep f (sweptTo i j) ++ l)
-      (keep-all f (z ∷ []) (λ x m. let q = ap (λ (r : Record). r .cell .row) (List·Memᴰ·eq-of-singleton m) ∙ ap (λ (y : Cell). y .row) (record-cell b (sweptTo i j) c) in
+      (keep-all f (z ∷ []) (λ x m. let q = ap (λ (r : Record). r .cell .row) (List·Memᴰ·eq-of-singleton m)
+      ∙ ap (λ (y : Cell). y .row) (record-cell b (sweptTo i j) c) in
       simp (inRun, tests) (omega arith)))
       ∙ ap (λ (r : Record). keep f (sweptTo i j) ++ (r ∷ [])) w
 
 module _ (b : ℕ) (hit : Cell → Bool) (columns : ℕ) where
   -- later rows come behind
-  pub matches-split : (i n : ℕ) → i ≤ n → (later : List Cell) × (matchesTo hit columns n ≡ matchesTo hit columns i ++ later) × ((y : Cell) → List·Memᴰ y later → i < y .row)
+  pub matches-split : (i n : ℕ) → i ≤ n
+      → (later : List Cell) × (matchesTo hit columns n ≡ matchesTo hit columns i ++ later) × ((y : Cell) → List·Memᴰ y later → i < y .row)
   unfolding matchesTo
   matches-split i n h =
       le-ind (λ (m : ℕ). (later : List Cell) × (matchesTo hit columns m ≡ matchesTo hit columns i ++ later) × ((y : Cell) → List·Memᴰ y later → i < y .row))
@@ -157,7 +160,8 @@ module _ (b : ℕ) (hit : Cell → Bool) (columns : ℕ) where
       in-row m g later f y (inr k) = omega (arith, row-in hit (suc m) columns y k .row-is)
 
   -- of all records, those of the window of row i + 1 are what the sweep holds after that row
-  pub held-window : (i n : ℕ) → suc i ≤ n → keep (λ x. inRun b (suc i) (x .cell)) (recordsFrom b [] (matchesTo hit columns n)) ≡ windowTo b hit columns i columns
+  pub held-window : (i n : ℕ) → suc i ≤ n
+      → keep (λ x. inRun b (suc i) (x .cell)) (recordsFrom b [] (matchesTo hit columns n)) ≡ windowTo b hit columns i columns
   unfolding windowTo
   held-window i n h =
       let f : Record → Bool = λ x. inRun b (suc i) (x .cell) in
@@ -180,7 +184,11 @@ module _ (b : ℕ) (hit : Cell → Bool) (columns : ℕ) where
     where
       go : T (hit (cell (suc i) (suc j))) ⊎ (¬ T (hit (cell (suc i) (suc j)))) → length (windowTo b hit columns i j) ≤ length (windowTo b hit columns i (suc j))
       go (inl t) =
-          omega (arith, ap length (window-hit b hit columns i j (T-true _ t)), length-append (windowTo b hit columns i j) (recordOf b (windowTo b hit columns i j) (cell (suc i) (suc j)) ∷ []))
+          omega (
+            arith,
+            ap length (window-hit b hit columns i j (T-true _ t)),
+            length-append (windowTo b hit columns i j) (recordOf b (windowTo b hit columns i j) (cell (suc i) (suc j)) ∷ []),
+          )
       go (inr t) = le-of-eq (ap length (sym (window-miss b hit columns i j (T-false _ t))))
 
   window-to-end : (i j : ℕ) → j ≤ columns → length (windowTo b hit columns i j) ≤ length (windowTo b hit columns i columns)

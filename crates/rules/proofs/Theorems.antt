@@ -8,13 +8,15 @@ use Prim.Native.Nat.{ℕ, _+_, _-_, _*_, _≤_, _<_, min}
 use native.Mathlib.Omega.{arith}
 use lib.Dec.{T}
 use Rattle.rules.specs.declared.Settings.{Settings}
+use Rattle.rules.specs.Entered.{forward, both}
 use Rattle.rules.specs.Lists.{text, keep}
 use Rattle.rules.specs.Letters.{codeOf, complement, reverseComplement, badPlace}
 use Rattle.rules.specs.Places.{kmerAt, packed}
 use Rattle.rules.specs.Matches.{Cell, cell, isMatch, matches}
 use mathlib.Core.Option.{some}
 use Rattle.rules.specs.Codes.{codes, codeMatch}
-use Rattle.rules.specs.Chains.{Chain, Heaviest, Preferred, Predecessor, Start, Closed, Through, RightMaximal, LeftExtension, AtOrBeyond, PreferredByColumn, PredecessorByColumn}
+use Rattle.rules.specs.Chains.{Chain, Heaviest, Preferred, Predecessor, Start, Closed, Through, RightMaximal, LeftExtension, AtOrBeyond}
+use Rattle.rules.specs.Chains.{PreferredByColumn, PredecessorByColumn}
 use Rattle.rules.specs.Records.{Record, records}
 use Rattle.rules.specs.Listing.{isListed, listing, ends, Listed, Ordered}
 use Rattle.rules.specs.Earlier.{listingEarlier}
@@ -26,10 +28,11 @@ use Rattle.rules.proofs.Starts.{heaviest-one, predecessor-one, start-on
 use Rattle.rules.proofs.Jobs.{match-in, match-has, record-cells, weight-heaviest, start-right, start-of-heaviest}
 use Rattle.rules.proofs.Listings.{listing-in, listing-has, listing-ordered, held-in, held-has, held-ordered}
 use Rattle.rules.proofs.Weighed.{weighed}
-use Rattle.rules.proofs.Farther.{farther-heavier, latest-row, nearest-column, larger-row, columns-apart, by-column, preferred-by-column, row-left-out, not-overtaken, nearest-of-row, latest-held}
+use Rattle.rules.proofs.Farther.{farther-heavier, latest-row, nearest-column, larger-row, columns-apart, by-column, preferred-by-column}
+use Rattle.rules.proofs.Farther.{row-left-out, not-overtaken, nearest-of-row, latest-held}
 use Rattle.rules.proofs.Maximal.{closed-offsets, closed-maximal, every-carried, listing-left}
 use Rattle.rules.proofs.Bounds.{W-bound, links-bound, no-matches, no-links}
-use Rattle.rules.proofs.Strands.{turned-twice, place-twice, reads-turned, reverse-within, need-of-each, forward, both, forward-first}
+use Rattle.rules.proofs.Strands.{turned-twice, place-twice, reads-turned, reverse-within, need-of-each, forward-first}
 
 module _ (c : Settings) (first second : List ℕ) where
   -- ---- matches
@@ -85,7 +88,8 @@ module _ (c : Settings) (first second : List ℕ) where
   closed-by-offsets = closed-offsets (c .b) (isMatch c first second)
 
   -- a match is closed exactly where no chain through it goes on
-  pub closed-is-right-maximal : (y : Cell) → T (isMatch c first second y) → Closed (c .b) (isMatch c first second) y ↔ RightMaximal (c .b) (isMatch c first second) y
+  pub closed-is-right-maximal : (y : Cell) → T (isMatch c first second y) → Closed (c .b) (isMatch c first second) y
+      ↔ RightMaximal (c .b) (isMatch c first second) y
   closed-is-right-maximal = closed-maximal (c .b) (isMatch c first second)
 
   -- and every chain can be carried on to a closed match: one from the same match goes through its last, weighs no less and ends there
@@ -179,7 +183,8 @@ pub predecessor-by-column : (b : ℕ) (hit : Cell → Bool) (c x : Cell) → Pre
 predecessor-by-column b hit c x = row-left-out
 
 -- of what a sweep holds after a row, in one column the latest row is the heaviest
-pub latest-held-heaviest : (c : Settings) (first second : List ℕ) (r : ℕ) (x y : Record) → List·Memᴰ x (held c first second r) → List·Memᴰ y (held c first second r)
+pub latest-held-heaviest : (c : Settings) (first second : List ℕ) (r : ℕ) (x y : Record) → List·Memᴰ x (held c first second r)
+    → List·Memᴰ y (held c first second r)
     → x .cell .column ≡ y .cell .column → x .cell .row ≤ y .cell .row → (x .weight < y .weight) ⊎ (x .cell ≡ y .cell)
 latest-held-heaviest = latest-held
 
@@ -204,13 +209,16 @@ place-turned-twice = place-twice
 pub reverse-by-eye : (c : Settings) (first second entry : List ℕ) → List·Memᴰ entry (strandEntries c first second 1) → ReadsTurned (c .k) first second entry
 reverse-by-eye = reads-turned
 
-pub reverse-inside : (c : Settings) (first second : List ℕ) → 1 ≤ c .k → (entry : List ℕ) → List·Memᴰ entry (strandEntries c first second 1) → Within second entry
+pub reverse-inside : (c : Settings) (first second : List ℕ) → 1 ≤ c .k → (entry : List ℕ) → List·Memᴰ entry (strandEntries c first second 1)
+    → Within second entry
 reverse-inside = reverse-within
 
 -- "forward entries come first": a job over both strands has those of the forward job, and then the reverse ones
-pub forward-entries-first : (k b a m : ℕ) (first second : List ℕ) → entries (both k b a m) first second ≡ entries (forward k b a m) first second ++ strandEntries (both k b a m) first second 1
+pub forward-entries-first : (k b a m : ℕ) (first second : List ℕ)
+    → entries (both k b a m) first second ≡ entries (forward k b a m) first second ++ strandEntries (both k b a m) first second 1
 forward-entries-first = forward-first
 
 -- "Work room must hold the larger W": no strand of a job needs more
-pub larger-need : (c : Settings) (first second : List ℕ) (strand : ℕ) → List·Memᴰ strand (strands c) → workNeed c first (onStrand strand second) ≤ largerNeed c first second
+pub larger-need : (c : Settings) (first second : List ℕ) (strand : ℕ) → List·Memᴰ strand (strands c)
+    → workNeed c first (onStrand strand second) ≤ largerNeed c first second
 larger-need = need-of-each

@@ -22,7 +22,8 @@ pub beats-is : (x y : Record) → T (beats x y) → Beats x y
 unfolding beats
 beats-is x y t = go (tested (ltb (y .weight) (x .weight))) (tested (ltb (x .cell .column) (y .cell .column)))
   where
-    h : ¬ (y .weight < x .weight) → (x .weight ≡ y .weight) × (¬ (x .cell .column < y .cell .column) → (x .cell .column ≡ y .cell .column) × (x .cell .row < y .cell .row))
+    h : ¬ (y .weight < x .weight) → (x .weight ≡ y .weight)
+        × (¬ (x .cell .column < y .cell .column) → (x .cell .column ≡ y .cell .column) × (x .cell .row < y .cell .row))
     h = simp (beats, tests) at t
 
     go : T (ltb (y .weight) (x .weight)) ⊎ (¬ T (ltb (y .weight) (x .weight)))

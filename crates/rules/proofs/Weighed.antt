@@ -18,7 +18,8 @@ use Rattle.rules.proofs.Starts.{right-heaviest}
 use Rattle.rules.proofs.Among.{among, among-in, among-has, records-right}
 
 -- a chain is one of other matches too that hold those of its rows and columns
-chain-within : {b : ℕ} {hit other : Cell → Bool} {p y : Cell} {n : ℕ} (last : Cell) → ((z : Cell) → z .row ≤ last .row → z .column ≤ last .column → T (hit z) → T (other z))
+chain-within : {b : ℕ} {hit other : Cell → Bool} {p y : Cell} {n : ℕ} (last : Cell)
+    → ((z : Cell) → z .row ≤ last .row → z .column ≤ last .column → T (hit z) → T (other z))
     → Chain b hit p y n → y .row ≤ last .row → y .column ≤ last .column → Chain b other p y n
 chain-within {p = p} last f (one h) r q = one (f p r q h)
 chain-within {b} last f (more {x = x} {y = y} c e h) r q =

@@ -1,7 +1,7 @@
 -- Document 01, "Numbers the registry may receive", with CR 1: the whole outcome of the compare job and of the stopped sweep, every number of the rooms
 -- with it, and the reply over the C boundary. Assumes nothing.
 use mathlib.Core.Bool.{Bool, cond, _||_}
-use mathlib.Core.List.{List, [], _∷_}
+use mathlib.Core.List.{List, [], _∷_, _++_}
 use Prim.Native.Nat.{ℕ, _+_}
 use lib.Dec.{ltb, eqb}
 use lib.ListN.{length}
@@ -19,6 +19,10 @@ pub record Outcome : Type 0 where
   pub answer : Answer
   pub work : List ℕ
   pub list : List ℕ
+
+-- the outcome that a call leaves
+abbrev pub left : Answer → List ℕ → List ℕ → Outcome
+left answer work list = record { answer = answer; work = work; list = list }
 
 -- "On refusal all four are 0."
 unfoldable pub refusal : ℕ → ℕ → ℕ → Answer
@@ -46,48 +50,77 @@ firstOf (l ∷ ls) a = let r = firstOf ls a in cond (l .when) (l .then) r
 unfoldable pub outside : ℕ → ℕ → ℕ → Bool
 outside low high n = ltb n low || ltb high n
 
--- 1 to 6, in order, and 9: "strand not 0 or 1, checked after 4"
-unfoldable pub checks : Settings → List ℕ → List ℕ → List (Line Answer)
-unfolding refusal outside badPlace
-checks c first second =
+-- ---- the checks that need no room, in pieces
+
+-- "1, 2, 3, 4 | k, b, a, m outside the table", then 9: "strand not 0 or 1, checked after 4"
+unfoldable pub settingsChecks : Settings → List (Line Answer)
+unfolding refusal outside
+settingsChecks c =
     on (outside 1 31 (c .k)) (refusal 1 0 0)
     ∷ on (outside 1 1024 (c .b)) (refusal 2 0 0)
     ∷ on (outside 1 1024 (c .a)) (refusal 3 0 0)
     ∷ on (outside 0 16384 (c .m)) (refusal 4 0 0)
     ∷ on (outside 0 1 (c .strand)) (refusal 9 0 0)
-    ∷ on (ltb 16384 (length first)) (refusal 5 1 0)
-    ∷ on (ltb 16384 (length second)) (refusal 5 2 0)
-    ∷ on (ltb 0 (badPlace first)) (refusal 6 1 (badPlace first))
-    ∷ on (ltb 0 (badPlace second)) (refusal 6 2 (badPlace second))
     ∷ []
 
--- the refusal that these give, which need no room and leave the rooms untouched, or number 0
+-- 5: "a sequence too long", by its letters
+unfoldable pub lengthCheck : ℕ → ℕ → Line Answer
+unfolding refusal
+lengthCheck sequence letters = on (ltb 16384 letters) (refusal 5 sequence 0)
+
+-- "the first looked at first"
+unfoldable pub lengthChecks : ℕ → ℕ → List (Line Answer)
+unfolding lengthCheck
+lengthChecks first second = lengthCheck 1 first ∷ lengthCheck 2 second ∷ []
+
+-- 6: "a letter not among the fifteen", with "its first such place"
+unfoldable pub letterCheck : ℕ → List ℕ → Line Answer
+unfolding refusal badPlace
+letterCheck sequence s = on (ltb 0 (badPlace s)) (refusal 6 sequence (badPlace s))
+
+-- "all of the first sequence before the second"
+unfoldable pub letterChecks : List ℕ → List ℕ → List (Line Answer)
+unfolding letterCheck
+letterChecks first second = letterCheck 1 first ∷ letterCheck 2 second ∷ []
+
+-- 1 to 6, in order, with 9 after 4
+unfoldable pub checks : Settings → List ℕ → List ℕ → List (Line Answer)
+unfolding settingsChecks lengthChecks letterChecks
+checks c first second = settingsChecks c ++ lengthChecks (length first) (length second) ++ letterChecks first second
+
+-- the refusal that some checks give, or number 0
+unfoldable pub given : List (Line Answer) → Answer
+unfolding firstOf refusal
+given lines = firstOf lines (refusal 0 0 0)
+
+-- that of all these, which need no room and leave the rooms untouched
 unfoldable pub checked : Settings → List ℕ → List ℕ → Answer
-unfolding firstOf checks refusal
-checked c first second = firstOf (checks c first second) (refusal 0 0 0)
+unfolding given checks
+checked c first second = given (checks c first second)
 
 -- a job whose settings, lengths and letters are refused ends there, and the others go on
 unfoldable pub afterChecks : Settings → List ℕ → List ℕ → List ℕ → List ℕ → Outcome → Outcome
 unfolding checked
 afterChecks c first second work list rest =
-    cond (eqb (checked c first second .number) 0) rest (record { answer = checked c first second; work = work; list = list })
+    cond (eqb (checked c first second .number) 0) rest (left (checked c first second) work list)
 
 -- 7, 8 and 19 leave zeros
 unfoldable pub zeroed : ℕ → ℕ → List ℕ → List ℕ → Outcome
 unfolding refusal zeros
-zeroed number detail work list = record { answer = refusal number 0 detail; work = zeros work; list = zeros list }
+zeroed number detail work list = left (refusal number 0 detail) (zeros work) (zeros list)
 
--- a compare job with these entries and tallies: 7, then 8. Done: "list: entries, then zeros; work: zeros"
+-- a compare job that is swept, with these entries and tallies: 8. Done: "list: entries, then zeros; work: zeros"
+unfoldable pub finishing : List (List ℕ) → ℕ → ℕ → ℕ → List ℕ → List ℕ → Outcome
+unfolding firstOf zeroed listHolds done zeros thenZeros laid
+finishing entries matches need links work list =
+    firstOf (on (ltb (listHolds list) (length entries)) (zeroed 8 (length entries) work list) ∷ [])
+    (left (done (length entries) matches need links) (zeros work) (thenZeros (laid (λ entry. entry) entries) (length list)))
+
+-- and one that is to be: 7 before it
 unfoldable pub comparing : List (List ℕ) → ℕ → ℕ → ℕ → List ℕ → List ℕ → Outcome
-unfolding firstOf zeroed workHolds listHolds done zeros thenZeros laid
+unfolding firstOf zeroed workHolds finishing
 comparing entries matches need links work list =
-    firstOf
-    (on (ltb (workHolds work) need) (zeroed 7 need work list) ∷ on (ltb (listHolds list) (length entries)) (zeroed 8 (length entries) work list) ∷ [])
-    (record {
-      answer = done (length entries) matches need links;
-      work = zeros work;
-      list = thenZeros (laid (λ entry. entry) entries) (length list);
-    })
+    firstOf (on (ltb (workHolds work) need) (zeroed 7 need work list) ∷ []) (finishing entries matches need links work list)
 
 -- "Checks go from 1 to 8"; a job over both strands is "refused for work room exactly below the larger need"
 unfoldable pub compared : Settings → List ℕ → List ℕ → List ℕ → List ℕ → Outcome
@@ -103,7 +136,7 @@ unfolding firstOf zeroed workHolds done thenZeros laid recordNumbers
 stopping records matches need links rows work r =
     firstOf
     (on (ltb (workHolds work) need) (zeroed 7 need work []) ∷ on (ltb rows r) (zeroed 19 rows work []) ∷ [])
-    (record { answer = done (length records) matches need links; work = thenZeros (laid recordNumbers records) (length work); list = [] })
+    (left (done (length records) matches need links) (thenZeros (laid recordNumbers records) (length work)) [])
 
 -- of two sequences
 unfoldable pub stoppedSweep : Settings → List ℕ → List ℕ → List ℕ → ℕ → Outcome

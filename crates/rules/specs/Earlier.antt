@@ -7,6 +7,7 @@ use Prim.Native.Nat.{ℕ, _+_}
 use lib.Dec.{leb, ltb}
 use Rattle.rules.specs.declared.Settings.{Settings}
 use Rattle.rules.specs.Lists.{text, keep, anyOf}
+use Rattle.rules.specs.Entered.{forward}
 use Rattle.rules.specs.Matches.{Cell, cell, matches}
 use Rattle.rules.specs.Records.{Record, records}
 use Rattle.rules.specs.Listing.{longEnough, listing}
@@ -27,7 +28,7 @@ listingEarlier c first second = keep (λ x. closedEarlier (c .b) (matches c firs
 
 -- P5's settings
 abbrev p5 : Settings
-p5 = record { k = 1; b = 1; a = 6; m = 0; strand = 0 }
+p5 = forward 1 1 6 0
 
 -- the matches that are listed
 abbrev cells : List Record → List Cell

@@ -6,6 +6,7 @@ use Prim.Native.Nat.{ℕ}
 use lib.ListN.{replicate}
 use Rattle.rules.specs.declared.Settings.{Settings}
 use Rattle.rules.specs.Lists.{text, thenZeros}
+use Rattle.rules.specs.Entered.{settings, forward, both}
 use Rattle.rules.specs.Matches.{cell, matches}
 use Rattle.rules.specs.Answers.{Outcome, refusal, compared, stopped, replied}
 
@@ -27,17 +28,9 @@ pub record Row : Type 0 where
 abbrev row : Question → Outcome → Row
 row q o = record { asked = q; given = o }
 
--- k, b, a and m on the forward strand
-abbrev pub set : ℕ → ℕ → ℕ → ℕ → Settings
-set k b a m = record { k = k; b = b; a = a; m = m; strand = 0 }
-
--- and on both; of the stopped sweep, on the reverse
-abbrev pub both : ℕ → ℕ → ℕ → ℕ → Settings
-both k b a m = record { k = k; b = b; a = a; m = m; strand = 1 }
-
 -- a strand that there is not
-abbrev pub no-strand : ℕ → ℕ → ℕ → ℕ → Settings
-no-strand k b a m = record { k = k; b = b; a = a; m = m; strand = 2 }
+abbrev no-strand : ℕ → ℕ → ℕ → ℕ → Settings
+no-strand k b a m = settings k b a m 2
 
 -- a room of n numbers as it is lent, none of them zero, so that zeros are seen to be written
 abbrev room : ℕ → List ℕ
@@ -66,25 +59,25 @@ none n = replicate n 0
 abbrev pub table : List Row
 unfolding text thenZeros
 table =
-    row (compare-job (set 2 2 8 0) (text "ACCGT") (text "ACGGT") (room 100) (room 100))
+    row (compare-job (forward 2 2 8 0) (text "ACCGT") (text "ACGGT") (room 100) (room 100))
     (done 1 3 2 2 (none 100) (thenZeros (1 ∷ 5 ∷ 1 ∷ 5 ∷ 3 ∷ 0 ∷ []) 100))
-    ∷ row (compare-job (set 2 1 8 0) (text "ACCGT") (text "ACGGT") (room 100) (room 100))
+    ∷ row (compare-job (forward 2 1 8 0) (text "ACCGT") (text "ACGGT") (room 100) (room 100))
     (done 3 3 2 0 (none 100) (thenZeros (1 ∷ 2 ∷ 1 ∷ 2 ∷ 1 ∷ 0 ∷ 3 ∷ 4 ∷ 2 ∷ 3 ∷ 1 ∷ 0 ∷ 4 ∷ 5 ∷ 4 ∷ 5 ∷ 1 ∷ 0 ∷ []) 100))
-    ∷ row (compare-job (set 2 2 8 0) (text "ACCGT") (text "ACGGT") (room 16) (room 100))
+    ∷ row (compare-job (forward 2 2 8 0) (text "ACCGT") (text "ACGGT") (room 16) (room 100))
     (done 1 3 2 2 (none 16) (thenZeros (1 ∷ 5 ∷ 1 ∷ 5 ∷ 3 ∷ 0 ∷ []) 100))
-    ∷ row (compare-job (set 2 2 8 0) (text "ACCGT") (text "ACGGT") (room 15) (room 100))
+    ∷ row (compare-job (forward 2 2 8 0) (text "ACCGT") (text "ACGGT") (room 15) (room 100))
     (refused 7 0 2 (none 15) (none 100))
-    ∷ row (compare-job (set 1 1 6 0) (text "AAA") (text "AAA") (room 100) (room 100))
+    ∷ row (compare-job (forward 1 1 6 0) (text "AAA") (text "AAA") (room 100) (room 100))
     (done 1 9 6 16 (none 100) (thenZeros (1 ∷ 3 ∷ 1 ∷ 3 ∷ 5 ∷ 0 ∷ []) 100))
-    ∷ row (compare-job (set 1 1 5 0) (text "AAA") (text "AAA") (room 100) (room 100)) (done 0 0 0 0 (none 100) (none 100))
-    ∷ row (compare-job (set 1 1 6 3) (text "AAA") (text "AAA") (room 100) (room 100))
+    ∷ row (compare-job (forward 1 1 5 0) (text "AAA") (text "AAA") (room 100) (room 100)) (done 0 0 0 0 (none 100) (none 100))
+    ∷ row (compare-job (forward 1 1 6 3) (text "AAA") (text "AAA") (room 100) (room 100))
     (done 1 9 6 16 (none 100) (thenZeros (1 ∷ 3 ∷ 1 ∷ 3 ∷ 5 ∷ 0 ∷ []) 100))
-    ∷ row (compare-job (set 2 3 3 0) (text "ACNAC") (text "AC") (room 100) (room 100))
+    ∷ row (compare-job (forward 2 3 3 0) (text "ACNAC") (text "AC") (room 100) (room 100))
     (done 1 2 2 1 (none 100) (thenZeros (1 ∷ 5 ∷ 1 ∷ 2 ∷ 2 ∷ 0 ∷ []) 100))
-    ∷ row (compare-job (set 2 2 3 0) (text "ACNAC") (text "AC") (room 100) (room 100))
+    ∷ row (compare-job (forward 2 2 3 0) (text "ACNAC") (text "AC") (room 100) (room 100))
     (done 2 2 1 0 (none 100) (thenZeros (1 ∷ 2 ∷ 1 ∷ 2 ∷ 1 ∷ 0 ∷ 4 ∷ 5 ∷ 1 ∷ 2 ∷ 1 ∷ 0 ∷ []) 100))
-    ∷ row (compare-job (set 1 1 1 0) [] [] [] []) (done 0 0 0 0 [] [])
-    ∷ row (stopped-sweep (set 2 2 8 0) (text "ACCGT") (text "ACGGT") (room 100) 3)
+    ∷ row (compare-job (forward 1 1 1 0) [] [] [] []) (done 0 0 0 0 [] [])
+    ∷ row (stopped-sweep (forward 2 2 8 0) (text "ACCGT") (text "ACGGT") (room 100) 3)
     (done 2 3 2 2 (thenZeros (1 ∷ 1 ∷ 1 ∷ 1 ∷ 1 ∷ 0 ∷ 0 ∷ 0 ∷ 3 ∷ 2 ∷ 2 ∷ 1 ∷ 1 ∷ 0 ∷ 0 ∷ 0 ∷ []) 100) [])
     ∷ []
 
@@ -94,7 +87,7 @@ unfolding outcome text thenZeros
 P1-to-P11 = refl
 
 -- P1: "matches (1,1), (3,2), (4,4)"
-pub P1-matches : matches (set 2 2 8 0) (text "ACCGT") (text "ACGGT") ≡ cell 1 1 ∷ cell 3 2 ∷ cell 4 4 ∷ []
+pub P1-matches : matches (forward 2 2 8 0) (text "ACCGT") (text "ACGGT") ≡ cell 1 1 ∷ cell 3 2 ∷ cell 4 4 ∷ []
 unfolding matches text
 P1-matches = refl
 
@@ -103,22 +96,22 @@ abbrev pub open-rows : List Row
 unfolding text thenZeros
 open-rows =
     -- a tie goes to the smaller column: the start is (2,1) and not (1,2)
-    row (compare-job (set 1 2 2 0) (text "ACG") (text "CAG") (room 24) (room 6)) (done 1 3 3 2 (none 24) (2 ∷ 3 ∷ 1 ∷ 3 ∷ 2 ∷ 0 ∷ []))
+    row (compare-job (forward 1 2 2 0) (text "ACG") (text "CAG") (room 24) (room 6)) (done 1 3 3 2 (none 24) (2 ∷ 3 ∷ 1 ∷ 3 ∷ 2 ∷ 0 ∷ []))
     -- of the fifteen letters only A, C, G and T form k-mers
-    ∷ row (compare-job (set 1 1 8 0) (text "ACMGRSVTWYHKDBN") (text "ACMGRSVTWYHKDBN") (room 16) (room 20))
+    ∷ row (compare-job (forward 1 1 8 0) (text "ACMGRSVTWYHKDBN") (text "ACMGRSVTWYHKDBN") (room 16) (room 20))
     (done 3 4 2 1 (none 16) (thenZeros (1 ∷ 2 ∷ 1 ∷ 2 ∷ 2 ∷ 0 ∷ 4 ∷ 4 ∷ 4 ∷ 4 ∷ 1 ∷ 0 ∷ 8 ∷ 8 ∷ 8 ∷ 8 ∷ 1 ∷ 0 ∷ []) 20))
     -- no k-mer runs across an N
-    ∷ row (compare-job (set 2 1 8 0) (text "ANC") (text "AC") (room 8) (room 6)) (done 0 0 0 0 (none 8) (none 6))
+    ∷ row (compare-job (forward 2 1 8 0) (text "ANC") (text "AC") (room 8) (room 6)) (done 0 0 0 0 (none 8) (none 6))
     -- ends are compared as numbers: 9 before 10
-    ∷ row (compare-job (set 1 1 2 0) (text "NNNNNNNNAC") (text "CNA") (room 16) (room 12))
+    ∷ row (compare-job (forward 1 1 2 0) (text "NNNNNNNNAC") (text "CNA") (room 16) (room 12))
     (done 2 2 2 0 (none 16) (9 ∷ 9 ∷ 3 ∷ 3 ∷ 1 ∷ 0 ∷ 10 ∷ 10 ∷ 1 ∷ 1 ∷ 1 ∷ 0 ∷ []))
     -- both spans count: with spans of 5 and 2, of 2 and 5, an entry is not listed at m 3
-    ∷ row (compare-job (set 2 3 3 3) (text "ACNAC") (text "AC") (room 16) (room 6)) (done 0 2 2 1 (none 16) (none 6))
-    ∷ row (compare-job (set 2 3 3 3) (text "AC") (text "ACNAC") (room 16) (room 6)) (done 0 2 2 1 (none 16) (none 6))
-    ∷ row (compare-job (set 2 3 3 2) (text "AC") (text "ACNAC") (room 16) (room 6)) (done 1 2 2 1 (none 16) (1 ∷ 2 ∷ 1 ∷ 5 ∷ 2 ∷ 0 ∷ []))
+    ∷ row (compare-job (forward 2 3 3 3) (text "ACNAC") (text "AC") (room 16) (room 6)) (done 0 2 2 1 (none 16) (none 6))
+    ∷ row (compare-job (forward 2 3 3 3) (text "AC") (text "ACNAC") (room 16) (room 6)) (done 0 2 2 1 (none 16) (none 6))
+    ∷ row (compare-job (forward 2 3 3 2) (text "AC") (text "ACNAC") (room 16) (room 6)) (done 1 2 2 1 (none 16) (1 ∷ 2 ∷ 1 ∷ 5 ∷ 2 ∷ 0 ∷ []))
     -- the stopped sweep after row 0, and after the last row
-    ∷ row (stopped-sweep (set 2 2 8 0) (text "ACCGT") (text "ACGGT") (room 17) 0) (done 0 3 2 2 (none 17) [])
-    ∷ row (stopped-sweep (set 2 2 8 0) (text "ACCGT") (text "ACGGT") (room 17) 4)
+    ∷ row (stopped-sweep (forward 2 2 8 0) (text "ACCGT") (text "ACGGT") (room 17) 0) (done 0 3 2 2 (none 17) [])
+    ∷ row (stopped-sweep (forward 2 2 8 0) (text "ACCGT") (text "ACGGT") (room 17) 4)
     (done 2 3 2 2 (3 ∷ 2 ∷ 2 ∷ 1 ∷ 1 ∷ 0 ∷ 0 ∷ 0 ∷ 4 ∷ 4 ∷ 3 ∷ 1 ∷ 1 ∷ 0 ∷ 0 ∷ 0 ∷ 0 ∷ []) [])
     ∷ []
 
@@ -130,12 +123,12 @@ open-examples = refl
 abbrev pub closed-rows : List Row
 unfolding text thenZeros
 closed-rows =
-    row (compare-job (set 2 3 3 0) (text "AC") (text "ACNAC") (room 16) (room 12))
+    row (compare-job (forward 2 3 3 0) (text "AC") (text "ACNAC") (room 16) (room 12))
     (done 1 2 2 1 (none 16) (thenZeros (1 ∷ 2 ∷ 1 ∷ 5 ∷ 2 ∷ 0 ∷ []) 12))
-    ∷ row (compare-job (set 2 2 3 0) (text "AC") (text "ACNAC") (room 16) (room 12))
+    ∷ row (compare-job (forward 2 2 3 0) (text "AC") (text "ACNAC") (room 16) (room 12))
     (done 2 2 2 0 (none 16) (1 ∷ 2 ∷ 1 ∷ 2 ∷ 1 ∷ 0 ∷ 1 ∷ 2 ∷ 4 ∷ 5 ∷ 1 ∷ 0 ∷ []))
     -- (1,3) does not go on to (3,1), which lies beyond it in one sequence and before it in the other
-    ∷ row (compare-job (set 1 4 2 0) (text "ANC") (text "CNA") (room 16) (room 12))
+    ∷ row (compare-job (forward 1 4 2 0) (text "ANC") (text "CNA") (room 16) (room 12))
     (done 2 2 2 0 (none 16) (1 ∷ 1 ∷ 3 ∷ 3 ∷ 1 ∷ 0 ∷ 3 ∷ 3 ∷ 1 ∷ 1 ∷ 1 ∷ 0 ∷ []))
     ∷ []
 
@@ -153,7 +146,7 @@ strand-rows =
     -- the turned sequence is ACCGN: its places 1 to 4 are reported as 2 to 5
     ∷ row (compare-job (both 2 2 8 0) (text "ACCG") (text "NCGGT") (room 24) (room 12))
     (done 2 4 3 3 (none 24) (3 ∷ 4 ∷ 2 ∷ 3 ∷ 1 ∷ 0 ∷ 1 ∷ 4 ∷ 2 ∷ 5 ∷ 3 ∷ 1 ∷ []))
-    ∷ row (compare-job (set 2 2 8 0) (text "ACCG") (text "NCGGT") (room 24) (room 12))
+    ∷ row (compare-job (forward 2 2 8 0) (text "ACCG") (text "NCGGT") (room 24) (room 12))
     (done 1 1 1 0 (none 24) (thenZeros (3 ∷ 4 ∷ 2 ∷ 3 ∷ 1 ∷ 0 ∷ []) 12))
     -- each strand has totals of its own: AA occurs twice on each, and three times in all
     ∷ row (compare-job (both 2 1 2 0) (text "AA") (text "AATT") (room 8) (room 12))
@@ -178,18 +171,18 @@ strand-examples = refl
 abbrev pub refusal-rows : List Row
 unfolding text
 refusal-rows =
-    row (compare-job (set 0 0 0 16385) (replicate 16385 0) (replicate 16385 0) (room 3) (room 2)) (refused 1 0 0 (room 3) (room 2))
-    ∷ row (compare-job (set 32 1025 1025 16385) (replicate 16385 0) (replicate 16385 0) (room 3) (room 2))
+    row (compare-job (forward 0 0 0 16385) (replicate 16385 0) (replicate 16385 0) (room 3) (room 2)) (refused 1 0 0 (room 3) (room 2))
+    ∷ row (compare-job (forward 32 1025 1025 16385) (replicate 16385 0) (replicate 16385 0) (room 3) (room 2))
     (refused 1 0 0 (room 3) (room 2))
-    ∷ row (compare-job (set 1 0 0 16385) (replicate 16385 0) (replicate 16385 0) (room 3) (room 2))
+    ∷ row (compare-job (forward 1 0 0 16385) (replicate 16385 0) (replicate 16385 0) (room 3) (room 2))
     (refused 2 0 0 (room 3) (room 2))
-    ∷ row (compare-job (set 31 1025 1025 16385) (replicate 16385 0) (replicate 16385 0) (room 3) (room 2))
+    ∷ row (compare-job (forward 31 1025 1025 16385) (replicate 16385 0) (replicate 16385 0) (room 3) (room 2))
     (refused 2 0 0 (room 3) (room 2))
-    ∷ row (compare-job (set 1 1 0 16385) (replicate 16385 0) (replicate 16385 0) (room 3) (room 2))
+    ∷ row (compare-job (forward 1 1 0 16385) (replicate 16385 0) (replicate 16385 0) (room 3) (room 2))
     (refused 3 0 0 (room 3) (room 2))
-    ∷ row (compare-job (set 31 1024 1025 16385) (replicate 16385 0) (replicate 16385 0) (room 3) (room 2))
+    ∷ row (compare-job (forward 31 1024 1025 16385) (replicate 16385 0) (replicate 16385 0) (room 3) (room 2))
     (refused 3 0 0 (room 3) (room 2))
-    ∷ row (compare-job (set 31 1024 1024 16385) (replicate 16385 0) (replicate 16385 0) (room 3) (room 2))
+    ∷ row (compare-job (forward 31 1024 1024 16385) (replicate 16385 0) (replicate 16385 0) (room 3) (room 2))
     (refused 4 0 0 (room 3) (room 2))
     ∷ row (compare-job (no-strand 31 1024 1024 16385) (replicate 16385 0) (replicate 16385 0) (room 3) (room 2))
     (refused 4 0 0 (room 3) (room 2))
@@ -197,24 +190,24 @@ refusal-rows =
     (refused 9 0 0 (room 3) (room 2))
     ∷ row (compare-job (both 31 1024 1024 16384) (replicate 16385 0) (replicate 16385 0) (room 3) (room 2))
     (refused 5 1 0 (room 3) (room 2))
-    ∷ row (compare-job (set 31 1024 1024 16384) (text "a") (replicate 16385 0) (room 3) (room 2)) (refused 5 2 0 (room 3) (room 2))
-    ∷ row (compare-job (set 1 1 6 0) (text "AaA") (text "AAU") (room 3) (room 2)) (refused 6 1 2 (room 3) (room 2))
-    ∷ row (compare-job (set 1 1 6 0) (text "AAA") (text "AAU") (room 3) (room 2)) (refused 6 2 3 (room 3) (room 2))
-    ∷ row (compare-job (set 1 1 6 0) (text "AAA") (text "AAA") (room 47) (room 5)) (refused 7 0 6 (none 47) (none 5))
-    ∷ row (compare-job (set 1 1 6 0) (text "AAA") (text "AAA") (room 48) (room 5)) (refused 8 0 1 (none 48) (none 5))
-    ∷ row (stopped-sweep (set 0 1 6 0) (text "AAA") (text "AAA") (room 47) 4) (refused 1 0 0 (room 47) [])
-    ∷ row (stopped-sweep (set 1 1 6 16385) (text "AAA") (text "AAA") (room 47) 4) (refused 4 0 0 (room 47) [])
+    ∷ row (compare-job (forward 31 1024 1024 16384) (text "a") (replicate 16385 0) (room 3) (room 2)) (refused 5 2 0 (room 3) (room 2))
+    ∷ row (compare-job (forward 1 1 6 0) (text "AaA") (text "AAU") (room 3) (room 2)) (refused 6 1 2 (room 3) (room 2))
+    ∷ row (compare-job (forward 1 1 6 0) (text "AAA") (text "AAU") (room 3) (room 2)) (refused 6 2 3 (room 3) (room 2))
+    ∷ row (compare-job (forward 1 1 6 0) (text "AAA") (text "AAA") (room 47) (room 5)) (refused 7 0 6 (none 47) (none 5))
+    ∷ row (compare-job (forward 1 1 6 0) (text "AAA") (text "AAA") (room 48) (room 5)) (refused 8 0 1 (none 48) (none 5))
+    ∷ row (stopped-sweep (forward 0 1 6 0) (text "AAA") (text "AAA") (room 47) 4) (refused 1 0 0 (room 47) [])
+    ∷ row (stopped-sweep (forward 1 1 6 16385) (text "AAA") (text "AAA") (room 47) 4) (refused 4 0 0 (room 47) [])
     ∷ row (stopped-sweep (no-strand 1 1 6 0) (text "AAA") (text "AAU") (room 47) 4) (refused 9 0 0 (room 47) [])
-    ∷ row (stopped-sweep (set 1 1 6 0) (text "AAA") (text "AAU") (room 47) 4) (refused 6 2 3 (room 47) [])
-    ∷ row (stopped-sweep (set 1 1 6 0) (text "AAA") (text "AAA") (room 47) 4) (refused 7 0 6 (none 47) [])
-    ∷ row (stopped-sweep (set 1 1 6 0) (text "AAA") (text "AAA") (room 48) 4) (refused 19 0 3 (none 48) [])
+    ∷ row (stopped-sweep (forward 1 1 6 0) (text "AAA") (text "AAU") (room 47) 4) (refused 6 2 3 (room 47) [])
+    ∷ row (stopped-sweep (forward 1 1 6 0) (text "AAA") (text "AAA") (room 47) 4) (refused 7 0 6 (none 47) [])
+    ∷ row (stopped-sweep (forward 1 1 6 0) (text "AAA") (text "AAA") (room 48) 4) (refused 19 0 3 (none 48) [])
     -- accepted: every setting at its least, at its greatest, and 16,384 letters
-    ∷ row (compare-job (set 1 1 1 0) (text "A") (text "C") (room 3) (room 2)) (done 0 0 0 0 (none 3) (none 2))
-    ∷ row (compare-job (set 31 1024 1024 16384) (text "ACGTACGTACGTACGTACGTACGTACGTACG") (text "ACGTACGTACGTACGTACGTACGTACGTACG") (room 8) (room 2))
+    ∷ row (compare-job (forward 1 1 1 0) (text "A") (text "C") (room 3) (room 2)) (done 0 0 0 0 (none 3) (none 2))
+    ∷ row (compare-job (forward 31 1024 1024 16384) (text "ACGTACGTACGTACGTACGTACGTACGTACG") (text "ACGTACGTACGTACGTACGTACGTACGTACG") (room 8) (room 2))
     (done 0 1 1 0 (none 8) (none 2))
-    ∷ row (compare-job (set 31 1024 1024 31) (text "ACGTACGTACGTACGTACGTACGTACGTACG") (text "ACGTACGTACGTACGTACGTACGTACGTACG") (room 8) (room 6))
+    ∷ row (compare-job (forward 31 1024 1024 31) (text "ACGTACGTACGTACGTACGTACGTACGTACG") (text "ACGTACGTACGTACGTACGTACGTACGTACG") (room 8) (room 6))
     (done 1 1 1 0 (none 8) (1 ∷ 31 ∷ 1 ∷ 31 ∷ 1 ∷ 0 ∷ []))
-    ∷ row (compare-job (set 31 1 1 0) (replicate 16384 78) [] (room 3) (room 2)) (done 0 0 0 0 (none 3) (none 2))
+    ∷ row (compare-job (forward 31 1 1 0) (replicate 16384 78) [] (room 3) (room 2)) (done 0 0 0 0 (none 3) (none 2))
     ∷ []
 
 pub refusal-examples : map (λ (r : Row). outcome (r .asked)) refusal-rows ≡ map (λ (r : Row). r .given) refusal-rows
@@ -222,15 +215,15 @@ unfolding outcome text
 refusal-examples = refl
 
 -- the reply over the C boundary: W, the larger W, and each refusal 1 to 4, 9, 5 and 6
-pub replies : replied (set 2 2 8 0) (text "ACCGT") (text "ACGGT")
+pub replies : replied (forward 2 2 8 0) (text "ACCGT") (text "ACGGT")
     ∷ replied (both 2 2 8 0) (text "ACCGT") (text "ACGGT")
-    ∷ replied (set 0 0 0 16385) (text "a") (text "a")
-    ∷ replied (set 1 0 0 16385) (text "a") (text "a")
-    ∷ replied (set 1 1 0 16385) (text "a") (text "a")
+    ∷ replied (forward 0 0 0 16385) (text "a") (text "a")
+    ∷ replied (forward 1 0 0 16385) (text "a") (text "a")
+    ∷ replied (forward 1 1 0 16385) (text "a") (text "a")
     ∷ replied (no-strand 1 1 1 16385) (text "a") (text "a")
     ∷ replied (no-strand 1 1 1 0) (text "a") (replicate 16385 0)
-    ∷ replied (set 1 1 1 0) (text "a") (replicate 16385 0)
-    ∷ replied (set 1 1 1 0) (text "a") (text "A")
+    ∷ replied (forward 1 1 1 0) (text "a") (replicate 16385 0)
+    ∷ replied (forward 1 1 1 0) (text "a") (text "A")
     ∷ []
     ≡ 2 ∷ 3 ∷ 4294967297 ∷ 4294967298 ∷ 4294967299 ∷ 4294967300 ∷ 4294967305 ∷ 4294967301 ∷ 4294967302 ∷ []
 unfolding replied text

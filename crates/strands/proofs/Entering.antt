@@ -16,8 +16,8 @@ use Rattle.rules.specs.Listing.{entryNumbers}
 use Rattle.rules.specs.Rooms.{listHolds, largestRun}
 use Rattle.rules.specs.Strands.{reverseNumbers, strandNumbers}
 use Rattle.rules.proofs.ListLaws.{laid-append, laid-map}
-use Rattle.rooms.specs.Layout.{turnEntries}
-use Rattle.rooms.proofs.Turning.{reverse-size, turned-all}
+use Rattle.entries.specs.Layout.{turnEntries}
+use Rattle.entries.proofs.Turning.{reverse-size, turned-all}
 use Rattle.rooms.proofs.Rests.{rest-is, rest-back}
 use Rattle.listing.specs.Leaving.{ListedTo}
 use Rattle.sweep.specs.Sweeping.{SweepSafe, ListsAll}
@@ -45,12 +45,15 @@ lists-none {firsts} {nexts} {list} {c} {slots} z =
     record {
       few = omega arith;
       entered = λ cells w e.
-          let none : cells ≡ [] = w .all ∙ none-needed (c .b) (w .hit) (w .columns) (length firsts) (let d = ap (λ (l : List Cell). largestRun (c .b) l (length firsts)) (w .all) in omega arith) in
+          let none : cells ≡ [] = w .all
+          ∙ none-needed (c .b) (w .hit) (w .columns) (length firsts)
+          (let d = ap (λ (l : List Cell). largestRun (c .b) l (length firsts)) (w .all) in omega arith) in
           subst⁻¹ (λ (l : List Cell). Entered (map (entryNumbers (c .k)) (listingOf c l)) list 0) none (record { counted = refl; entries = λ h. refl });
     }
 
 -- what is listed, in numbers
-entered-as : {c : Settings} {cells : List Cell} {list : List ℕ} {n : ℕ} → ListedTo c cells (recordsFrom (c .b) [] cells) list n → Entered (map (entryNumbers (c .k)) (listingOf c cells)) list n
+entered-as : {c : Settings} {cells : List Cell} {list : List ℕ} {n : ℕ} → ListedTo c cells (recordsFrom (c .b) [] cells) list n
+    → Entered (map (entryNumbers (c .k)) (listingOf c cells)) list n
 unfolding listingOf
 entered-as {c} {cells} v =
     record {
@@ -58,7 +61,8 @@ entered-as {c} {cells} v =
       entries = λ h. v .entries h ∙ sym (laid-map (entryNumbers (c .k)) (λ entry. entry) (listingOf c cells));
     }
 
-pub lists-swept : {firsts nexts list : List ℕ} {c : Settings} {slots n : ℕ} → Walked firsts nexts c → ListsAll firsts nexts (record { size = slots; origin = 0 }) c list n → ListsAs (entryNumbers (c .k)) firsts nexts slots c list n
+pub lists-swept : {firsts nexts list : List ℕ} {c : Settings} {slots n : ℕ} → Walked firsts nexts c
+    → ListsAll firsts nexts (record { size = slots; origin = 0 }) c list n → ListsAs (entryNumbers (c .k)) firsts nexts slots c list n
 lists-swept {firsts} {nexts} {list} {c} {slots} {n} s a =
     record {
       few = (let f = a .few in let r = s .walks .few-rows in omega arith);
@@ -82,7 +86,8 @@ module _ {firsts nexts list : List ℕ} {c : Settings} {slots n : ℕ} (letters 
             record { counted = v .counted ∙ sizes ∙ sym (length-map (listingOf c cells) (reverseNumbers letters (c .k))); entries = λ f. absurd (omega arith) };
       }
 
-  pub lists-turned : n ≤ listHolds list → {list′ : List ℕ} → list′ ≡ turnEntries letters list n → ListsAs (reverseNumbers letters (c .k)) firsts nexts slots c list′ n
+  pub lists-turned : n ≤ listHolds list → {list′ : List ℕ} → list′ ≡ turnEntries letters list n
+      → ListsAs (reverseNumbers letters (c .k)) firsts nexts slots c list′ n
   unfolding listHolds
   lists-turned h {list′} el =
       record { few = a .few; entered = λ cells w e. back (listingOf c cells) (a .entered cells w e) }
@@ -91,7 +96,8 @@ module _ {firsts nexts list : List ℕ} {c : Settings} {slots n : ℕ} (letters 
       back xs v =
           let count : n ≡ length xs = v .counted ∙ length-map xs (entryNumbers (c .k)) in
           let front : take (6 * n) list ≡ laid (entryNumbers (c .k)) xs = v .entries (omega arith) ∙ laid-map (entryNumbers (c .k)) (λ entry. entry) xs in
-          let whole : list ≡ laid (entryNumbers (c .k)) xs ++ drop (6 * n) list = sym (take-append-drop (6 * n) list) ∙ ap (λ (l : List ℕ). l ++ drop (6 * n) list) front in
+          let whole : list ≡ laid (entryNumbers (c .k)) xs ++ drop (6 * n) list = sym (take-append-drop (6 * n) list)
+          ∙ ap (λ (l : List ℕ). l ++ drop (6 * n) list) front in
           let turns : list′ ≡ laid (reverseNumbers letters (c .k)) xs ++ drop (6 * n) list =
           el ∙ ap₂ (λ (l : List ℕ) (m : ℕ). turnEntries letters l m) whole count ∙ turned-all letters (c .k) xs (drop (6 * n) list) in
           let size : length (laid (reverseNumbers letters (c .k)) xs) ≡ 6 * n = reverse-size letters (c .k) xs ∙ sym (ap (λ (m : ℕ). 6 * m) count) in
@@ -136,8 +142,10 @@ module _ (list rest : List ℕ) (at n : ℕ) (ea : at ≡ min (6 * n) (length li
           ∙ ap₂ (λ (x y : List ℕ). x ++ y) first (w .entries (omega (arith, rest-size)))
           ∙ sym (laid-append (λ (entry : List ℕ). entry) forward reverse)
 
-  pub lists-both : {m : ℕ} {firsts nexts reverse-firsts reverse-nexts : List ℕ} {slots letters : ℕ} {c : Settings} → ListsAs (entryNumbers (c .k)) firsts nexts slots c list n
-      → ListsAs (reverseNumbers letters (c .k)) reverse-firsts reverse-nexts slots c rest m → ListsBoth firsts nexts reverse-firsts reverse-nexts slots c letters whole (n + m)
+  pub lists-both : {m : ℕ} {firsts nexts reverse-firsts reverse-nexts : List ℕ} {slots letters : ℕ} {c : Settings}
+      → ListsAs (entryNumbers (c .k)) firsts nexts slots c list n
+      → ListsAs (reverseNumbers letters (c .k)) reverse-firsts reverse-nexts slots c rest m
+      → ListsBoth firsts nexts reverse-firsts reverse-nexts slots c letters whole (n + m)
   unfolding entriesOf largerOf strandNumbers
   lists-both a z =
       record {

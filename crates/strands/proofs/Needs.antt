@@ -21,7 +21,8 @@ count-some f xs x (List·Memᴰ·tail {x = y} {xs = ys} m) t = let h = count-som
 
 pub none-needed : (b : ℕ) (hit : Cell → Bool) (columns rows : ℕ) → largestRun b (matchesTo hit columns rows) rows ≡ 0 → matchesTo hit columns rows ≡ []
 unfolding largestRun inRun
-none-needed b hit columns rows e = empty (matchesTo hit columns rows) (λ y m. none y m (matches-in hit columns rows y m .row-from) (matches-in hit columns rows y m .row-to))
+none-needed b hit columns rows e =
+    empty (matchesTo hit columns rows) (λ y m. none y m (matches-in hit columns rows y m .row-from) (matches-in hit columns rows y m .row-to))
   where
     none : (y : Cell) → List·Memᴰ y (matchesTo hit columns rows) → 1 ≤ y .row → y .row ≤ rows → ⊥
     none y m h g =

@@ -45,7 +45,8 @@ module _ {firsts nexts reverse-firsts reverse-nexts : List ℕ} (s : WalkSafe fi
     pub sum-few : n .matches + m .matches ≤ 2 ^ 29
     sum-few = omega (arith, counted-few f s, counted-few r t)
 
-    pub counts-both : {widest : ℕ} → widest ≡ max (n .widest) (m .widest) → CountsBoth firsts nexts reverse-firsts reverse-nexts b (record { matches = n .matches + m .matches; widest = widest })
+    pub counts-both : {widest : ℕ} → widest ≡ max (n .widest) (m .widest)
+        → CountsBoth firsts nexts reverse-firsts reverse-nexts b (record { matches = n .matches + m .matches; widest = widest })
     unfolding largerOf
     counts-both e =
         record {
@@ -57,9 +58,11 @@ module _ {firsts nexts reverse-firsts reverse-nexts : List ℕ} (s : WalkSafe fi
               (ap₂ (λ (x y : ℕ). x + y) (a .0) (z .0), e ∙ ap₂ (λ (x y : ℕ). max x y) (a .1) (z .1));
         }
 
-  pub links-both : {n m total : ℕ} → Linked firsts nexts b n → Linked reverse-firsts reverse-nexts b m → total ≡ (n + m) % 2 ^ 64 → LinksBoth firsts nexts reverse-firsts reverse-nexts b total
+  pub links-both : {n m total : ℕ} → Linked firsts nexts b n → Linked reverse-firsts reverse-nexts b m → total ≡ (n + m) % 2 ^ 64
+      → LinksBoth firsts nexts reverse-firsts reverse-nexts b total
   links-both f r e =
       record {
         exact = λ forward reverse w v.
-            e ∙ ap₂ (λ (x y : ℕ). (x + y) % 2 ^ 64) (linked-to f w) (linked-to r v) ∙ mod-eq-of-lt (let a = few-links b s w in let z = few-links b t v in omega arith);
+            e ∙ ap₂ (λ (x y : ℕ). (x + y) % 2 ^ 64) (linked-to f w) (linked-to r v)
+            ∙ mod-eq-of-lt (let a = few-links b s w in let z = few-links b t v in omega arith);
       }

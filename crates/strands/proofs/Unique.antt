@@ -8,8 +8,10 @@ use Rattle.rules.specs.declared.Cell.{Cell}
 use Rattle.tally.specs.declared.Counts.{Counts}
 use Rattle.strands.specs.Strands.{largerOf, WalkTo, CountsBoth, LinksBoth, ListsBoth}
 
-module _ {firsts nexts reverse-firsts reverse-nexts : List ℕ} {forward reverse : List Cell} (f : WalkTo firsts nexts forward) (r : WalkTo reverse-firsts reverse-nexts reverse) where
-  pub counts-one : {b : ℕ} {n m : Counts} → CountsBoth firsts nexts reverse-firsts reverse-nexts b n → CountsBoth firsts nexts reverse-firsts reverse-nexts b m → n ≡ m
+module _ {firsts nexts reverse-firsts reverse-nexts : List ℕ} {forward reverse : List Cell} (f : WalkTo firsts nexts forward)
+    (r : WalkTo reverse-firsts reverse-nexts reverse) where
+  pub counts-one : {b : ℕ} {n m : Counts} → CountsBoth firsts nexts reverse-firsts reverse-nexts b n
+      → CountsBoth firsts nexts reverse-firsts reverse-nexts b m → n ≡ m
   counts-one a z =
       let x = a .exact forward reverse f r in
       let y = z .exact forward reverse f r in
@@ -19,7 +21,8 @@ module _ {firsts nexts reverse-firsts reverse-nexts : List ℕ} {forward reverse
   links-one a z = a .exact forward reverse f r ∙ sym (z .exact forward reverse f r)
 
   -- so many entries, and the same numbers where the rooms hold them
-  pub lists-one : {slots letters : ℕ} {c : Settings} {list list′ : List ℕ} {n m : ℕ} → largerOf (c .b) forward (length firsts) reverse (length reverse-firsts) ≤ slots
+  pub lists-one : {slots letters : ℕ} {c : Settings} {list list′ : List ℕ} {n m : ℕ}
+      → largerOf (c .b) forward (length firsts) reverse (length reverse-firsts) ≤ slots
       → ListsBoth firsts nexts reverse-firsts reverse-nexts slots c letters list n → ListsBoth firsts nexts reverse-firsts reverse-nexts slots c letters list′ m
       → (n ≡ m) × (6 * n ≤ length list → 6 * m ≤ length list′ → take (6 * n) list ≡ take (6 * m) list′)
   lists-one h a z =

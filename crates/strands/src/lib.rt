@@ -25,7 +25,7 @@ pub fn count_strands(
     let forward = tally::count_matches(firsts, nexts, b);
     let reverse = tally::count_matches(reverse_firsts, reverse_nexts, b);
     let matches = forward.matches + reverse.matches;
-    let widest = casts::larger(forward.widest, reverse.widest);
+    let widest = numbers::larger(forward.widest, reverse.widest);
     Counts { matches, widest }
 }
 
@@ -89,7 +89,7 @@ fn list_turned(
 {
     let count = list_strand(firsts, nexts, slots, c, work, list);
     if count <= rooms::entry_count(list) {
-        rooms::turn_entries(list, count, letters);
+        entries::turn_entries(list, count, letters);
     }
     count
 }

@@ -49,7 +49,8 @@ module _ {firsts nexts room₀ : List ℕ} {ring : Ring} {c : Settings} (s : Swe
       record { fits = s .fits; room-for = omega arith; few = omega arith; order = d .order; entries = d .entries; some-base = s .some-base }
 
   -- and once every row below (rows + b + 1) - b is released, none is left
-  pub lists-all : {last : ℕ} → last ≡ length firsts + c .b + 1 → {list′ : List ℕ} {r : Released} → ReleaseDone c last room latest ring (w .tail) (w .head) list (w .listed) list′ r
+  pub lists-all : {last : ℕ} → last ≡ length firsts + c .b + 1 → {list′ : List ℕ} {r : Released}
+      → ReleaseDone c last room latest ring (w .tail) (w .head) list (w .listed) list′ r
       → ListsAll firsts nexts ring c list′ (r .listed)
   lists-all {last} el {list′} {r} e = record { few = (let a = e .few in let b = e .to in let f = d .few in omega arith); entered = go }
     where
@@ -58,7 +59,8 @@ module _ {firsts nexts room₀ : List ℕ} {ring : Ring} {c : Settings} (s : Swe
       go hit columns a =
           let all = sweptTo (c .b) hit columns (length firsts) 0 in
           let cells = matchesTo hit columns (length firsts) in
-          let asks = release-asks c hit columns (length firsts) ring (a .described .narrow) (s .walks .few-rows) (s .few-bases) (length firsts) last room latest (w .tail) (w .head)
+          let asks = release-asks c hit columns (length firsts) ring (a .described .narrow) (s .walks .few-rows) (s .few-bases)
+          (length firsts) last room latest (w .tail) (w .head)
           (d .machine hit columns a) (d .counted hit columns a) (omega arith) (omega arith) (λ y p q. p) in
           let m = e .released (length firsts) all cells asks in
           let none : ¬ (r .tail < length all) = λ l.
@@ -119,7 +121,8 @@ module _ (c : Settings) (hit : Cell → Bool) (columns rows : ℕ) (ring : Ring)
           in-later g h l =
               let k : length front + (g - length front) ≡ g = omega arith in
               let z = length-append front later in
-              let e = ap (λ (y : Cell). y .row) (sym (split g) ∙ ap (λ (q : ℕ). getD (front ++ later) q (cell 0 0)) (sym k) ∙ getD-append-add front later (g - length front) (cell 0 0)) in
+              let e = ap (λ (y : Cell). y .row)
+              (sym (split g) ∙ ap (λ (q : ℕ). getD (front ++ later) q (cell 0 0)) (sym k) ∙ getD-append-add front later (g - length front) (cell 0 0)) in
               let o = sp .2 (getD later (g - length front) (cell 0 0)) (mem-at later (g - length front) (cell 0 0) (omega (arith, lengths))) in
               omega arith
 
@@ -171,7 +174,8 @@ module _ (c : Settings) (hit : Cell → Bool) (columns rows : ℕ) (ring : Ring)
   unfolding slotOf
   slot-is f e q h =
       let k : tail + q + ring .origin ≡ tail + ring .origin + q = omega arith in
-      ap (λ (n : ℕ). n % ring .size) k ∙ sym (mod-add-mod (tail + ring .origin) (ring .size) q) ∙ ap (λ (n : ℕ). (n + q) % ring .size) e ∙ ap (λ (n : ℕ). n % ring .size) (zero-add q) ∙ mod-eq-of-lt h
+      ap (λ (n : ℕ). n % ring .size) k ∙ sym (mod-add-mod (tail + ring .origin) (ring .size) q) ∙ ap (λ (n : ℕ). (n + q) % ring .size) e
+      ∙ ap (λ (n : ℕ). n % ring .size) (zero-add q) ∙ mod-eq-of-lt h
 
   pub run-lies : RingFits ring → 8 * ring .size ≤ length room → slotOf ring tail ≡ 0 → take (8 * (length all - tail)) room ≡ laid recordNumbers (drop tail all)
   run-lies f rf e =
@@ -183,7 +187,8 @@ module _ (c : Settings) (hit : Cell → Bool) (columns rows : ℕ) (ring : Ring)
       ext-getD 0 (take (8 * n) room) (laid recordNumbers (drop tail all)) (omega arith)
       (λ i h. number i (i / 8) (i % 8) (omega arith) (omega arith) (omega arith))
     where
-      number : (i q r : ℕ) → i ≡ q * 8 + r → r < 8 → q < length all - tail → getD (take (8 * (length all - tail)) room) i 0 ≡ getD (laid recordNumbers (drop tail all)) i 0
+      number : (i q r : ℕ) → i ≡ q * 8 + r → r < 8 → q < length all - tail
+          → getD (take (8 * (length all - tail)) room) i 0 ≡ getD (laid recordNumbers (drop tail all)) i 0
       number i q r ei hr hq =
           let fi = m .fits in
           let ld = length-drop tail all in
@@ -207,7 +212,8 @@ holds-run {firsts} {nexts} {room₀} {ring} {c} s {room} {latest} {list} {w} d e
     go : (hit : Cell → Bool) (columns : ℕ) → Describes hit columns firsts nexts (c .b) ring
         → slotOf ring (length (matchesTo hit columns (length firsts - c .b - 1))) ≡ 0
         → (w .head - w .tail ≡ length (keep (λ x. inRun (c .b) (length firsts) (x .cell)) (recordsFrom (c .b) [] (matchesTo hit columns (length firsts)))))
-        × (room′ ≡ thenZeros (laid recordNumbers (keep (λ x. inRun (c .b) (length firsts) (x .cell)) (recordsFrom (c .b) [] (matchesTo hit columns (length firsts))))) (length room₀))
+        × (room′ ≡ thenZeros (laid recordNumbers
+        (keep (λ x. inRun (c .b) (length firsts) (x .cell)) (recordsFrom (c .b) [] (matchesTo hit columns (length firsts))))) (length room₀))
     go hit columns a z =
         let rows = length firsts in
         let all = sweptTo (c .b) hit columns (length firsts) 0 in
@@ -218,10 +224,15 @@ holds-run {firsts} {nexts} {room₀} {ring} {c} s {room} {latest} {list} {w} d e
         let run : keep (λ x. inRun (c .b) (length firsts) (x .cell)) (recordsFrom (c .b) [] (matchesTo hit columns (length firsts))) ≡ drop (w .tail) all =
         ap (keep (λ (x : Record). inRun (c .b) (length firsts) (x .cell))) (sym (swept-all (c .b) hit columns (length firsts)))
         ∙ run-is c hit columns (length firsts) ring (a .described .narrow) (s .walks .few-rows) (s .few-bases) room latest (w .tail) m in
-        let lies = run-lies c hit columns (length firsts) ring (a .described .narrow) (s .walks .few-rows) (s .few-bases) room latest (w .tail) m (s .fits) (rw el (s .room-for)) zero in
+        let lies = run-lies c hit columns (length firsts) ring (a .described .narrow) (s .walks .few-rows) (s .few-bases) room latest (w .tail) m (s .fits)
+        (rw el (s .room-for)) zero in
         let k : length all - w .tail ≡ w .head - w .tail = ap (λ (q : ℕ). q - w .tail) n in
         let front : take (8 * (w .head - w .tail)) room ≡ laid recordNumbers (drop (w .tail) all) = ap (λ (q : ℕ). take (8 * q) room) (sym k) ∙ lies in
         let ll = laid-length recordNumbers 8 record-size (drop (w .tail) all) in
         let ld = length-drop (w .tail) all in
         let rest : length room - 8 * (w .head - w .tail) ≡ length room₀ - length (laid recordNumbers (drop (w .tail) all)) = omega arith in
-        rw run (sym k ∙ sym ld, er ∙ ap (λ (l : List ℕ). l ++ replicate (length room - 8 * (w .head - w .tail)) 0) front ∙ ap (λ (q : ℕ). laid recordNumbers (drop (w .tail) all) ++ replicate q 0) rest)
+        rw run (
+          sym k ∙ sym ld,
+          er ∙ ap (λ (l : List ℕ). l ++ replicate (length room - 8 * (w .head - w .tail)) 0) front
+              ∙ ap (λ (q : ℕ). laid recordNumbers (drop (w .tail) all) ++ replicate q 0) rest,
+        )

@@ -3,7 +3,7 @@
 use mathlib.Core.Path.{_≡_, refl, sym, ap, subst⁻¹, _∙_}
 use mathlib.Core.Bool.{Bool, true, false}
 use mathlib.Core.List.{List, [], _∷_, _++_}
-use Prim.Native.Nat.{ℕ, zero, suc, _+_, _-_, _≤_, _<_}
+use Prim.Native.Nat.{ℕ, zero, suc, _+_, _≤_, _<_}
 use native.Mathlib.Omega.{arith}
 use native.Mathlib.Nat.{le-refl}
 use lib.Dec.{T}
@@ -46,12 +46,14 @@ pub row-parted : (b : ℕ) (hit : Cell → Bool) (columns k j : ℕ) → Parted 
 row-parted b hit columns k zero = record { same = λ g h. refl; fresh = λ g h l. absurd (omega arith); grown = le-refl _ }
 row-parted b hit columns k (suc j) = go (hit (cell (suc k) (suc j))) refl (row-parted b hit columns k j)
   where
-    go : (t : Bool) → hit (cell (suc k) (suc j)) ≡ t → Parted (sweptTo b hit columns k 0) (sweptTo b hit columns k j) (suc k) → Parted (sweptTo b hit columns k 0) (sweptTo b hit columns k (suc j)) (suc k)
+    go : (t : Bool) → hit (cell (suc k) (suc j)) ≡ t → Parted (sweptTo b hit columns k 0) (sweptTo b hit columns k j) (suc k)
+        → Parted (sweptTo b hit columns k 0) (sweptTo b hit columns k (suc j)) (suc k)
     go false e p = subst⁻¹ (λ (l : List Record). Parted (sweptTo b hit columns k 0) l (suc k)) (swept-miss b hit columns k j e) p
     go true e p =
         let x = recordOf b (sweptTo b hit columns k j) (cell (suc k) (suc j)) in
         subst⁻¹ (λ (l : List Record). Parted (sweptTo b hit columns k 0) l (suc k)) (swept-hit b hit columns k j e)
-        (parted-more (sweptTo b hit columns k 0) (sweptTo b hit columns k j) (suc k) x (ap (λ (c : Cell). c .row) (record-cell b (sweptTo b hit columns k j) (cell (suc k) (suc j)))) p)
+        (parted-more (sweptTo b hit columns k 0) (sweptTo b hit columns k j) (suc k) x
+        (ap (λ (c : Cell). c .row) (record-cell b (sweptTo b hit columns k j) (cell (suc k) (suc j)))) p)
 
 -- before a row begins none of its records is there
 pub old-row : (b : ℕ) (hit : Cell → Bool) (columns k g : ℕ) → g < length (sweptTo b hit columns k 0) → nth (sweptTo b hit columns k 0) g .cell .row ≤ k
@@ -62,7 +64,8 @@ old-row b hit columns k g h =
     let n : ¬ (nth (sweptTo b hit columns k 0) g .cell .row ≡ suc k) = λ e. (let u = p .own e in omega arith) in
     go r n (three (nth (sweptTo b hit columns k 0) g .cell .row) (suc k))
   where
-    go : nth (sweptTo b hit columns k 0) g .cell .row ≤ suc k → ¬ (nth (sweptTo b hit columns k 0) g .cell .row ≡ suc k) → Three (nth (sweptTo b hit columns k 0) g .cell .row) (suc k) → nth (sweptTo b hit columns k 0) g .cell .row ≤ k
+    go : nth (sweptTo b hit columns k 0) g .cell .row ≤ suc k → ¬ (nth (sweptTo b hit columns k 0) g .cell .row ≡ suc k)
+        → Three (nth (sweptTo b hit columns k 0) g .cell .row) (suc k) → nth (sweptTo b hit columns k 0) g .cell .row ≤ k
     go r n (below q) = omega arith
     go r n (equal q) = absurd (n q)
     go r n (above q) = absurd (omega arith)
@@ -74,29 +77,36 @@ unfolding keep
 kept-some f [] t h = omega arith
 kept-some f (x ∷ xs) zero h =
     let ih = kept-some f xs zero (λ g l k. h (suc g) (omega arith) (omega arith)) in
-    by-test (λ (l : List Record). suc (length xs) ≤ 0 + length l) (f x) (x ∷ keep f xs) (keep f xs) (λ _. (let i = ih in omega arith)) (λ n. absurd (n (h 0 (omega arith) (omega arith))))
+    by-test (λ (l : List Record). suc (length xs) ≤ 0 + length l) (f x) (x ∷ keep f xs) (keep f xs) (λ _. (let i = ih in omega arith))
+    (λ n. absurd (n (h 0 (omega arith) (omega arith))))
 kept-some f (x ∷ xs) (suc t) h =
     let ih = kept-some f xs t (λ g l k. h (suc g) (omega arith) (omega arith)) in
-    by-test (λ (l : List Record). suc (length xs) ≤ suc t + length l) (f x) (x ∷ keep f xs) (keep f xs) (λ _. (let i = ih in omega arith)) (λ _. (let i = ih in omega arith))
+    by-test (λ (l : List Record). suc (length xs) ≤ suc t + length l) (f x) (x ∷ keep f xs) (keep f xs) (λ _. (let i = ih in omega arith))
+    (λ _. (let i = ih in omega arith))
 
 module _ (b : ℕ) (hit : Cell → Bool) (columns rows : ℕ) (ring : Ring) (wide : largestRun b (matchesTo hit columns rows) rows ≤ ring .size) where
-  pub row-room : (k tail : ℕ) → k < rows → ((g : ℕ) → tail ≤ g → g < length (sweptTo b hit columns k 0) → suc k ≤ nth (sweptTo b hit columns k 0) g .cell .row + b)
+  pub row-room : (k tail : ℕ) → k < rows
+      → ((g : ℕ) → tail ≤ g → g < length (sweptTo b hit columns k 0) → suc k ≤ nth (sweptTo b hit columns k 0) g .cell .row + b)
       → length (sweptTo b hit columns k columns) ≤ tail + ring .size
   unfolding windowTo inRun
   row-room k tail h f =
-      let w : length (windowTo b hit columns k columns) ≤ largestRun b (matchesTo hit columns rows) rows = window-fits b hit columns k columns rows h (le-refl _) in
-      let s = kept-some (λ x. inRun b (suc k) (x .cell)) (sweptTo b hit columns k columns) tail (λ g l q. pass g l q (three g (length (sweptTo b hit columns k 0)))) in
+      let w : length (windowTo b hit columns k columns) ≤ largestRun b (matchesTo hit columns rows) rows =
+      window-fits b hit columns k columns rows h (le-refl _) in
+      let s = kept-some (λ x. inRun b (suc k) (x .cell)) (sweptTo b hit columns k columns) tail
+      (λ g l q. pass g l q (three g (length (sweptTo b hit columns k 0)))) in
       omega arith
     where
       p : Parted (sweptTo b hit columns k 0) (sweptTo b hit columns k columns) (suc k)
       p = row-parted b hit columns k columns
 
-      near : (g : ℕ) → tail ≤ g → g < length (sweptTo b hit columns k columns) → Three g (length (sweptTo b hit columns k 0)) → suc k ≤ nth (sweptTo b hit columns k columns) g .cell .row + b
+      near : (g : ℕ) → tail ≤ g → g < length (sweptTo b hit columns k columns) → Three g (length (sweptTo b hit columns k 0))
+          → suc k ≤ nth (sweptTo b hit columns k columns) g .cell .row + b
       near g l q (below z) = let e = ap (λ (r : Record). r .cell .row) (p .same g z) in let u = f g l z in omega arith
       near g l q (equal z) = let e = p .fresh g (omega arith) q in omega arith
       near g l q (above z) = let e = p .fresh g (omega arith) q in omega arith
 
-      pass : (g : ℕ) → tail ≤ g → g < length (sweptTo b hit columns k columns) → Three g (length (sweptTo b hit columns k 0)) → T (inRun b (suc k) (nth (sweptTo b hit columns k columns) g .cell))
+      pass : (g : ℕ) → tail ≤ g → g < length (sweptTo b hit columns k columns) → Three g (length (sweptTo b hit columns k 0))
+          → T (inRun b (suc k) (nth (sweptTo b hit columns k columns) g .cell))
       pass g l q z =
           let n = near g l q z in
           let pl = swept-place b hit columns k columns (nth (sweptTo b hit columns k columns) g) (mem-nth (sweptTo b hit columns k columns) g q) in

@@ -34,7 +34,8 @@ use Rattle.sweep.specs.Sweeping.{laterFrom, leavesAt, SweepSafe, Describ
 use Rattle.sweep.proofs.Parts.{Parted, row-parted, old-row, row-room, front-same}
 
 -- after k rows: the state, how many records there are, and the listed ones of those released
-pub record SweepState (c : Settings) (hit : Cell → Bool) (columns rows k : ℕ) (room latest list : List ℕ) (ring : Ring) (tail head from listed : ℕ) : Type 0 where
+pub record SweepState (c : Settings) (hit : Cell → Bool) (columns rows k : ℕ) (room latest list : List ℕ) (ring : Ring)
+    (tail head from listed : ℕ) : Type 0 where
   pub machine : Machine (c .b) k (sweptTo (c .b) hit columns k 0) room latest ring tail
   pub counted : length (sweptTo (c .b) hit columns k 0) ≡ head
   pub late : Late (suc k) (sweptTo (c .b) hit columns k 0) from
@@ -54,7 +55,11 @@ module _ (c : Settings) (hit : Cell → Bool) (columns rows : ℕ) (ring : Ring)
         machine = rw (swept-start (c .b) hit columns) (
             record {
               stored = λ g h l. absurd (omega arith);
-              columns = record { within = λ q. (let e = none .empty q in omega arith); column = λ q h. absurd (let e = none .empty q in omega arith); newest = λ g l. absurd (omega arith) };
+              columns = record {
+                within = λ q. (let e = none .empty q in omega arith);
+                column = λ q h. absurd (let e = none .empty q in omega arith);
+                newest = λ g l. absurd (omega arith);
+              };
               gone = λ g h l. absurd (omega arith);
               kept = λ g h l. absurd (omega arith);
               order = omega arith;
@@ -183,7 +188,8 @@ module _ (c : Settings) (hit : Cell → Bool) (columns rows : ℕ) (ring : Ring)
       pub sweep-turn : SweepState c hit columns rows (suc k) room′ latest′ list′ ring tail′ n (laterFrom n head from) listed′
       sweep-turn =
           let z = v .counted in
-          let front : take tail′ (sweptTo (c .b) hit columns k columns) ≡ take tail′ (swept k) = front-same (swept k) (sweptTo (c .b) hit columns k columns) (suc k) part tail′ (omega arith) in
+          let front : take tail′ (sweptTo (c .b) hit columns k columns) ≡ take tail′ (swept k) =
+          front-same (swept k) (sweptTo (c .b) hit columns k columns) (suc k) part tail′ (omega arith) in
           record {
             machine = rw (swept-row (c .b) hit columns k) (stored .0);
             counted = rw (swept-row (c .b) hit columns k) (stored .1);
@@ -193,7 +199,8 @@ module _ (c : Settings) (hit : Cell → Bool) (columns rows : ℕ) (ring : Ring)
 
 -- ---- the loop
 
-pub record SweepInv (firsts nexts room₀ latest₀ list₀ : List ℕ) (ring : Ring) (c : Settings) (room latest list : List ℕ) (tail head from listed k : ℕ) : Type 0 where
+pub record SweepInv (firsts nexts room₀ latest₀ list₀ : List ℕ) (ring : Ring) (c : Settings) (room latest list : List ℕ)
+    (tail head from listed k : ℕ) : Type 0 where
   pub long : length room ≡ length room₀
   pub wide : length latest ≡ length latest₀
   pub size : length list ≡ length list₀
@@ -201,15 +208,18 @@ pub record SweepInv (firsts nexts room₀ latest₀ list₀ : List ℕ) (ring : 
   pub order : tail ≤ head
   pub entries : listed ≤ tail
   pub rows : k ≤ length firsts
-  pub state : (hit : Cell → Bool) (columns : ℕ) → Describes hit columns firsts nexts (c .b) ring → SweepState c hit columns (length firsts) k room latest list ring tail head from listed
+  pub state : (hit : Cell → Bool) (columns : ℕ) → Describes hit columns firsts nexts (c .b) ring
+      → SweepState c hit columns (length firsts) k room latest list ring tail head from listed
 
 -- what leaves before row k + 1 has left: the run of that row is in the room, and what left is listed
-pub record Left (firsts nexts : List ℕ) (ring : Ring) (c : Settings) (room latest list : List ℕ) (tail head from listed k : ℕ) (list′ : List ℕ) (tail′ listed′ : ℕ) : Type 0 where
+pub record Left (firsts nexts : List ℕ) (ring : Ring) (c : Settings) (room latest list : List ℕ) (tail head from listed k : ℕ) (list′ : List ℕ)
+    (tail′ listed′ : ℕ) : Type 0 where
   pub to : tail′ ≤ head
   pub few : listed′ ≤ tail′
   pub size : length list′ ≡ length list
   pub machine : (hit : Cell → Bool) (columns : ℕ) → Describes hit columns firsts nexts (c .b) ring
-      → SweepState c hit columns (length firsts) k room latest list ring tail head from listed → Machine (c .b) (suc k) (sweptTo (c .b) hit columns k 0) room latest ring tail′
+      → SweepState c hit columns (length firsts) k room latest list ring tail head from listed
+      → Machine (c .b) (suc k) (sweptTo (c .b) hit columns k 0) room latest ring tail′
   pub entered : (hit : Cell → Bool) (columns : ℕ) → Describes hit columns firsts nexts (c .b) ring
       → SweepState c hit columns (length firsts) k room latest list ring tail head from listed
       → ListedTo c (matchesTo hit columns (length firsts)) (take tail′ (sweptTo (c .b) hit columns k 0)) list′ listed′
@@ -236,10 +246,12 @@ module _ {firsts nexts room₀ latest₀ list₀ : List ℕ} {ring : Ring} {c : 
         order = omega arith;
         entries = omega arith;
         rows = omega arith;
-        state = λ hit columns a. sweep-begins c hit columns (length firsts) ring (a .described .narrow) (s .walks .few-rows) (s .few-bases) room₀ latest₀ list₀ none;
+        state = λ hit columns a. sweep-begins c hit columns (length firsts) ring (a .described .narrow) (s .walks .few-rows)
+            (s .few-bases) room₀ latest₀ list₀ none;
       }
 
-  module _ {room latest list : List ℕ} {tail head from listed k : ℕ} (v : SweepInv firsts nexts room₀ latest₀ list₀ ring c room latest list tail head from listed k) where
+  module _ {room latest list : List ℕ} {tail head from listed k : ℕ}
+      (v : SweepInv firsts nexts room₀ latest₀ list₀ ring c room latest list tail head from listed k) where
     pub sweep-end : length firsts ≤ k → SweepDone firsts nexts ring c room latest list (record { tail = tail; head = head; listed = listed })
     sweep-end h =
         let r = v .rows in
@@ -249,10 +261,12 @@ module _ {firsts nexts room₀ latest₀ list₀ : List ℕ} {ring : Ring} {c : 
           order = v .order;
           few = rw (← e) f;
           entries = v .entries;
-          machine = λ hit columns a. subst (λ (n : ℕ). Machine (c .b) n (sweptTo (c .b) hit columns n 0) room latest ring tail) e (v .state hit columns a .machine);
+          machine = λ hit columns a. subst (λ (n : ℕ). Machine (c .b) n (sweptTo (c .b) hit columns n 0) room latest ring tail) e
+              (v .state hit columns a .machine);
           counted = λ hit columns a. subst (λ (n : ℕ). length (sweptTo (c .b) hit columns n 0) ≡ head) e (v .state hit columns a .counted);
           entered = λ hit columns a.
-              subst (λ (n : ℕ). ListedTo c (matchesTo hit columns (length firsts)) (take tail (sweptTo (c .b) hit columns n 0)) list listed) e (v .state hit columns a .entered);
+              subst (λ (n : ℕ). ListedTo c (matchesTo hit columns (length firsts)) (take tail (sweptTo (c .b) hit columns n 0)) list listed) e
+              (v .state hit columns a .entered);
         }
 
     pub release-safe : k < length firsts → ReleaseSafe room ring tail head c listed
@@ -295,16 +309,20 @@ module _ {firsts nexts room₀ latest₀ list₀ : List ℕ} {ring : Ring} {c : 
           few = d .few;
           size = d .size;
           machine = λ hit columns a w. d .released k (sweptTo (c .b) hit columns k 0) (matchesTo hit columns (length firsts)) (asks hit columns a w);
-          entered = λ hit columns a w. d .entered k (sweptTo (c .b) hit columns k 0) (matchesTo hit columns (length firsts)) (asks hit columns a w) (w .entered);
+          entered = λ hit columns a w. d .entered k (sweptTo (c .b) hit columns k 0) (matchesTo hit columns (length firsts))
+              (asks hit columns a w) (w .entered);
         }
       where
-        asks : (hit : Cell → Bool) (columns : ℕ) → Describes hit columns firsts nexts (c .b) ring → SweepState c hit columns (length firsts) k room latest list ring tail head from listed
+        asks : (hit : Cell → Bool) (columns : ℕ) → Describes hit columns firsts nexts (c .b) ring
+            → SweepState c hit columns (length firsts) k room latest list ring tail head from listed
             → ReleaseAsks c (suc k) k (sweptTo (c .b) hit columns k 0) (matchesTo hit columns (length firsts)) room latest ring tail head
         asks hit columns a w =
-            release-asks c hit columns (length firsts) ring (a .described .narrow) (s .walks .few-rows) (s .few-bases) k (suc k) room latest tail head (w .machine) (w .counted) (omega arith) (omega arith) (λ y l b. omega arith)
+            release-asks c hit columns (length firsts) ring (a .described .narrow) (s .walks .few-rows) (s .few-bases) k (suc k) room latest tail head
+            (w .machine) (w .counted) (omega arith) (omega arith) (λ y l b. omega arith)
 
     -- where no row leaves, nothing need be done
-    pub left-none : k < length firsts → {b : ℕ} → b ≡ c .b → leavesAt firsts b k ≡ false → Left firsts nexts ring c room latest list tail head from listed k list tail listed
+    pub left-none : k < length firsts → {b : ℕ} → b ≡ c .b → leavesAt firsts b k ≡ false
+        → Left firsts nexts ring c room latest list tail head from listed k list tail listed
     left-none h {b} eb e₀ =
         let e = subst (λ (n : ℕ). leavesAt firsts n k ≡ false) eb e₀ in
         record {
@@ -320,7 +338,8 @@ module _ {firsts nexts room₀ latest₀ list₀ : List ℕ} {ring : Ring} {c : 
             → (g : ℕ) → g < length (sweptTo (c .b) hit columns k 0) → nth (sweptTo (c .b) hit columns k 0) g .cell .row + c .b ≢ k
         none-there e hit columns a g l z =
             let y = nth (sweptTo (c .b) hit columns k 0) g .cell in
-            let one = matches-in hit columns k y (is-match-to c hit columns (length firsts) ring (a .described .narrow) (s .walks .few-rows) (s .few-bases) k g l) .row-from in
+            let one = matches-in hit columns k y
+            (is-match-to c hit columns (length firsts) ring (a .described .narrow) (s .walks .few-rows) (s .few-bases) k g l) .row-from in
             let p = k - c .b - 1 in
             let there : y .row ≡ suc p = omega arith in
             let begins = none-leaves firsts (c .b) k e (omega arith) in
@@ -352,7 +371,8 @@ module _ {firsts nexts room₀ latest₀ list₀ : List ℕ} {ring : Ring} {c : 
           state = λ hit columns a.
               let w = v .state hit columns a in
               rw (ef₀, add-one k)
-              (sweep-turn c hit columns (length firsts) ring (a .described .narrow) (s .walks .few-rows) (s .few-bases) (a .enough) k room latest list tail head from listed w h list′ tail′ listed′ dt
+              (sweep-turn c hit columns (length firsts) ring (a .described .narrow) (s .walks .few-rows) (s .few-bases)
+              (a .enough) k room latest list tail head from listed w h list′ tail′ listed′ dt
               (d .machine hit columns a w) (d .entered hit columns a w) start nexts
               (subst⁻¹ (λ (t : ℕ). RowWalk hit (suc k) columns t nexts) es (a .described .rows k h)) room′ latest′ n
               (subst (λ (t : ℕ). RowDone (c .b) t room latest nexts ring tail′ head from start room′ latest′ n) (add-one k) e));

@@ -35,7 +35,7 @@ fn leaves(firsts: &[u32], b: usize, p: usize) -> bool
     firsts[p - b - 1] != 0
 }
 
-// All rows: row k + 1 begins in column firsts[k], and after column j comes nexts[j - 1]. A step a row and a match; no room but the ring's is kept from
+// All rows: row i + 1 begins in column firsts[i], and after column j comes nexts[j - 1]. A step a row and a match; no room but the ring's is kept from
 // one match to the next, and `latest` holds running numbers only.
 fn sweep(
     firsts: &[u32],
@@ -50,22 +50,22 @@ fn sweep(
     requires { ⌜ NoneLatest (now latest) ⌝ }
     ensures { λ r. ⌜ SweepDone (now (firsts .entry)) (now (nexts .entry)) ring c (now (room .exit)) (now (latest .exit)) (now (list .exit)) r ⌝ }
 {
-    let b = casts::wide(c.b);
+    let b = numbers::wide(c.b);
     let mut tail: usize = 0;
     let mut head: usize = 0;
     let mut from: usize = 0;
     let mut listed: usize = 0;
-    let mut k: usize = 0;
-    while k < firsts.len() {
-        let start = casts::wide(firsts[k]);
-        let leave = leaves(firsts, b, k);
-        k += 1;
+    let mut i: usize = 0;
+    while i < firsts.len() {
+        let start = numbers::wide(firsts[i]);
+        let leave = leaves(firsts, b, i);
+        i += 1;
         if leave {
-            let released = listing::release(room, latest, ring, tail, head, c, k, list, listed);
+            let released = listing::release(room, latest, ring, tail, head, c, i, list, listed);
             tail = released.tail;
             listed = released.listed;
         }
-        let h = rows::store_row(nexts, start, room, latest, ring, tail, head, from, b, k);
+        let h = rows::store_row(nexts, start, room, latest, ring, tail, head, from, b, i);
         from = later_from(h, head, from);
         head = h;
     }
@@ -87,7 +87,7 @@ pub fn list_all(
     // one more than the running number of each column's latest record: numbers, and no records
     let mut latest = [0u32; 16385];
     let swept = sweep(firsts, nexts, room, &mut latest, ring, c, list);
-    let last = firsts.len() + casts::wide(c.b) + 1;
+    let last = firsts.len() + numbers::wide(c.b) + 1;
     let released = listing::release(
         room,
         &latest,

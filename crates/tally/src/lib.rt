@@ -15,7 +15,7 @@ pub fn row_size(nexts: &[u32], start: usize) -> usize
     let mut j = start;
     while j != 0 {
         size += 1;
-        j = casts::wide(nexts[j - 1]);
+        j = numbers::wide(nexts[j - 1]);
     }
     size
 }
@@ -29,7 +29,7 @@ pub fn matches_before(firsts: &[u32], nexts: &[u32], rows: usize) -> usize
     let mut matches: usize = 0;
     let mut p: usize = 0;
     while p < rows {
-        matches += row_size(nexts, casts::wide(firsts[p]));
+        matches += row_size(nexts, numbers::wide(firsts[p]));
         p += 1;
     }
     matches
@@ -44,7 +44,7 @@ fn leaving(firsts: &[u32], nexts: &[u32], b: usize, p: usize) -> usize
     if p <= b {
         return 0;
     }
-    row_size(nexts, casts::wide(firsts[p - b - 1]))
+    row_size(nexts, numbers::wide(firsts[p - b - 1]))
 }
 
 pub struct Counts {
@@ -64,10 +64,10 @@ pub fn count_matches(firsts: &[u32], nexts: &[u32], b: usize) -> Counts
     let mut widest: usize = 0;
     let mut p: usize = 0;
     while p < firsts.len() {
-        let size = row_size(nexts, casts::wide(firsts[p]));
+        let size = row_size(nexts, numbers::wide(firsts[p]));
         matches += size;
-        run = casts::minus(run + size, leaving(firsts, nexts, b, p));
-        widest = casts::larger(widest, run);
+        run = numbers::minus(run + size, leaving(firsts, nexts, b, p));
+        widest = numbers::larger(widest, run);
         p += 1;
     }
     Counts { matches, widest }

@@ -43,7 +43,7 @@ pub fn count_rows(firsts: &mut [u32], n: usize, a: u32, count: &mut [u32]) -> bo
     let mut j = 0;
     while j < n {
         let i = j;
-        let e = casts::wide(firsts[i]);
+        let e = numbers::wide(firsts[i]);
         j += 1;
         if 0 < e {
             let q = e - 1;
@@ -68,7 +68,7 @@ pub fn cap(count: &[u32], a: u32, firsts: &mut [u32], n: usize)
     let mut j = 0;
     while j < n {
         let i = j;
-        let e = casts::wide(firsts[i]);
+        let e = numbers::wide(firsts[i]);
         j += 1;
         if 0 < e {
             let q = e - 1;

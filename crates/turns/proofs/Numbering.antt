@@ -5,7 +5,7 @@ use Prim.Native.Nat.{ℕ}
 use native.Mathlib.Omega.{arith}
 use lib.Dec.{eqb}
 use borrow.Author.Tests.{eq-eqb, ne-eqb, eqb-true, eqb-false}
-use Rattle.lines.specs.declared.Frame.{Frame}
+use Rattle.decoding.specs.declared.Frame.{Frame}
 use Rattle.turns.specs.Turns.{knownKind, inTurn, frameNumber}
 
 module _ (turn : ℕ) (f : Frame) where

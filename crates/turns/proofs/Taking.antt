@@ -8,11 +8,11 @@ use lib.Dec.{eqb}
 use lib.ListN.{length, take, drop, length-drop}
 use lib.Seq.{sets, length-take-le, take-append-le, drop-append-le}
 use borrow.Author.Tests.{ne-eqb, eqb-true}
-use Rattle.lines.specs.Digits.{bytesIn}
-use Rattle.lines.specs.Reading.{frameIn, bytesLeft}
+use Rattle.decoding.specs.Digits.{bytesIn}
+use Rattle.decoding.specs.Reading.{frameIn, bytesLeft}
 use Rattle.lines.proofs.Storing.{sets-front}
-use Rattle.lines.proofs.Decoding.{byte-at}
-use Rattle.lines.proofs.Frames.{count-most, FrameRead, frame-read}
+use Rattle.decoding.proofs.Decoding.{byte-at}
+use Rattle.decoding.proofs.Frames.{count-most, FrameRead, frame-read}
 use Rattle.payloads.specs.Numbers.{numberAt}
 use Rattle.readers.specs.Readers.{strandIn, jobIn}
 use Rattle.payloads.proofs.Numbers.{number-same}

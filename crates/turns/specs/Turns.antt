@@ -6,9 +6,9 @@ use Prim.Native.Nat.{ℕ}
 use lib.Dec.{eqb, leb}
 use lib.ListN.{length, take, drop}
 use Rattle.rules.specs.declared.Settings.{Settings}
-use Rattle.lines.specs.declared.Frame.{Frame}
-use Rattle.lines.specs.Digits.{bytesIn}
-use Rattle.lines.specs.Reading.{frameIn}
+use Rattle.decoding.specs.declared.Frame.{Frame}
+use Rattle.decoding.specs.Digits.{bytesIn}
+use Rattle.decoding.specs.Reading.{frameIn}
 use Rattle.pieces.specs.Letters.{pieceNumber, lettersIn}
 use Rattle.readers.specs.Readers.{jobIn}
 

@@ -1,5 +1,5 @@
 // One line of the program's input, in its turn: what is wrong with it, and what a good one adds to what the lines before it have said.
-use lines::Frame;
+use decoding::Frame;
 use pieces::Taken;
 use rules::Settings;
 ghost use mathlib.Core.Path.{_≡_};
@@ -135,7 +135,7 @@ pub fn take_line(line: &[u8], s: State, first: &mut [u8], second: &mut [u8]) -> 
     ensures { λ r. ⌜ LineTaken (now (line .entry)) s (now (first .entry)) (now (second .entry)) r (now (first .exit)) (now (second .exit)) ⌝ }
 {
     let mut bytes = [0u8; 67];
-    let frame = lines::read_line(line, &mut bytes);
+    let frame = decoding::read_line(line, &mut bytes);
     let number = frame_number(s.turn, frame);
     if number != 0 {
         return number_state(s, number);

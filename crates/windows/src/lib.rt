@@ -31,11 +31,11 @@ pub fn slide(counts: &[u32; 16385], b: usize, at: usize, held: u32, j: usize) ->
             let entered = std::num::wrapping_add_u32(held, sum(counts, at + 1, j + 1));
             return std::num::wrapping_sub_u32(
                 entered,
-                sum(counts, casts::minus(at, b), casts::minus(j, b)),
+                sum(counts, numbers::minus(at, b), numbers::minus(j, b)),
             );
         }
     }
-    sum(counts, casts::minus(j, b), j + 1)
+    sum(counts, numbers::minus(j, b), j + 1)
 }
 
 // What the window of column `at` holds once column q counts one less.
@@ -45,7 +45,7 @@ pub fn without(b: usize, at: usize, held: u32, q: usize) -> u32
     if at < q {
         return held;
     }
-    if q < casts::minus(at, b) {
+    if q < numbers::minus(at, b) {
         return held;
     }
     std::num::wrapping_sub_u32(held, 1)

@@ -2,7 +2,8 @@
 use mathlib.Core.Path.{sym}
 use lib.Seq.{length-take-le}
 use Rattle.exchange.specs.Whole.{inputRefusal}
-use Rattle.exchange.proofs.Bounded.{refusal-fits, first-count, second-count, front-fits, front-letters, short-output, long-output, refused-lines, job-lines}
+use Rattle.exchange.proofs.Bounded.{refusal-fits, first-count, second-count, front-fits, front-letters, short-output, long-output}
+use Rattle.exchange.proofs.Bounded.{refused-lines, job-lines}
 use borrow.Author.Needs.{needs}
 use Rattle.exchange.proofs.answer.Statement.{statement}
 use Rattle.exchange.proofs.answer.Tie as tie
@@ -29,24 +30,12 @@ returns c =
     let a = c .before .before .before .args in
     short-output (a .input .now) (a .output .now) (a .output .now) 0 (c .if1 .taken)
 
-slice-aggregate-read-input : tie.Need-slice-aggregate-read-input
-slice-aggregate-read-input c = search needs
-
-slice-aggregate-read-input-2 : tie.Need-slice-aggregate-read-input-2
-slice-aggregate-read-input-2 c = search needs
-
-read-input-requires : tie.Need-read-input-requires
-read-input-requires c κs = search needs
-
 put-refused-requires : tie.Need-put-refused-requires
 unfolding inputRefusal
 put-refused-requires c κs =
     let p = reading-2 (c .before) in
     let r = p .read-input in
     (refusal-fits (entry p .args .input .now) (r .result) (r .ensures .0), long-enough p .if1 .left)
-
-same-length : tie.Need-same-length
-same-length c = search needs
 
 returns-2 : tie.Need-returns-2
 unfolding inputRefusal
@@ -57,7 +46,9 @@ returns-2 c =
     let a = entry p .args in
     let r = p .read-input in
     let w = written .put-refused in
-    long-output (a .input .now) (a .output .now) (w .last .1 .0) (w .result) _ (long-enough p .if1 .left) (refused-lines (a .input .now) (a .output .now) (w .last .1 .0) (w .result) (r .result) (r .ensures .0) (refused .if2 .taken)) (w .ensures .0) (w .ensures .1)
+    long-output (a .input .now) (a .output .now) (w .last .1 .0) (w .result) _ (long-enough p .if1 .left)
+    (refused-lines (a .input .now) (a .output .now) (w .last .1 .0) (w .result) (r .result) (r .ensures .0) (refused .if2 .taken))
+    (w .ensures .0) (w .ensures .1)
 
 array-share-prefix-first : tie.Need-array-share-prefix-first
 array-share-prefix-first c =
@@ -71,7 +62,8 @@ slice-aggregate-answer-job c =
     let p = reading (c .before) in
     let r = p .read-input in
     let a = entry p .args in
-    sym (length-take-le (r .result .first) _ (front-fits (r .result .first) _ _ _ (first-count (a .input .now) (r .result) (r .ensures .0) (c .before .if2 .left)) (r .ensures .1 .0)))
+    sym (length-take-le (r .result .first) _
+    (front-fits (r .result .first) _ _ _ (first-count (a .input .now) (r .result) (r .ensures .0) (c .before .if2 .left)) (r .ensures .1 .0)))
 
 array-share-prefix-second : tie.Need-array-share-prefix-second
 array-share-prefix-second c =
@@ -85,13 +77,11 @@ slice-aggregate-answer-job-2 c =
     let p = reading (c .before .before) in
     let r = p .read-input in
     let a = entry p .args in
-    sym (length-take-le (r .result .second) _ (front-fits (r .result .second) _ _ _ (second-count (a .input .now) (r .result) (r .ensures .0) (c .before .before .if2 .left)) (r .ensures .1 .1)))
+    sym (length-take-le (r .result .second) _
+    (front-fits (r .result .second) _ _ _ (second-count (a .input .now) (r .result) (r .ensures .0) (c .before .before .if2 .left)) (r .ensures .1 .1)))
 
 answer-job-requires : tie.Need-answer-job-requires
 answer-job-requires c κs = long-enough (reading (c .before .before .before)) .if1 .left
-
-same-length-2 : tie.Need-same-length-2
-same-length-2 c = search needs
 
 returns-3 : tie.Need-returns-3
 returns-3 c =
@@ -104,23 +94,24 @@ returns-3 c =
     let first = front-letters (r .result .first) _ _ _ (first-count (a .input .now) (r .result) (r .ensures .0) (accepted .if2 .left)) (r .ensures .1 .0) in
     let second = front-letters (r .result .second) _ _ _ (second-count (a .input .now) (r .result) (r .ensures .0) (accepted .if2 .left)) (r .ensures .1 .1) in
     long-output (a .input .now) (a .output .now) (w .last .1 .1 .1 .0) (w .result) _ (long-enough p .if1 .left)
-    (job-lines (a .input .now) (a .output .now) (w .last .1 .1 .1 .0) (w .result) (r .result) _ _ (r .ensures .0) (accepted .if2 .left) first second) (w .ensures .0) (w .ensures .1)
+    (job-lines (a .input .now) (a .output .now) (w .last .1 .1 .1 .0) (w .result) (r .result) _ _ (r .ensures .0) (accepted .if2 .left) first second)
+    (w .ensures .0) (w .ensures .1)
 
 pub answer-spec : {M : Type 1} → statement M
 answer-spec =
     tie.close
     (tie.spec
     returns
-    slice-aggregate-read-input
-    slice-aggregate-read-input-2
-    read-input-requires
+    (λ c. search needs)
+    (λ c. search needs)
+    (λ c κs. search needs)
     put-refused-requires
-    same-length
+    (λ c. search needs)
     returns-2
     array-share-prefix-first
     slice-aggregate-answer-job
     array-share-prefix-second
     slice-aggregate-answer-job-2
     answer-job-requires
-    same-length-2
+    (λ c. search needs)
     returns-3)

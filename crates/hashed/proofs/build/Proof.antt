@@ -30,15 +30,6 @@ finding p = p .before .before .before .before .before
 loop-holds : tie.Need-loop-holds Inv-loop μ-loop
 loop-holds c = (refl, (refl, (c .before .before .before .before .pre .1 .1, owned-start)))
 
-mul-c : tie.Need-mul-c Inv-loop μ-loop
-mul-c c = search needs
-
-shared-slice-read-c : tie.Need-shared-slice-read-c Inv-loop μ-loop
-shared-slice-read-c c = search needs
-
-add-j : tie.Need-add-j Inv-loop μ-loop
-add-j c = search needs
-
 find-requires : tie.Need-find-requires Inv-loop μ-loop
 find-requires c κs = (c .before .before .before .before .before .loop .inv .1 .1 .0, c .before .before .if1 .taken)
 
@@ -65,21 +56,6 @@ put-requires c κs =
     let new = is-new (found .before .before .before .if1 .taken) (found .find .ensures) (c .before .before .if3 .taken) in
     (l .before .before .before .before .before .pre .0, (found .before .before .before .before .before .loop-test .taken, (l .loop .inv .1 .1 .0, new)))
 
-add-own : tie.Need-add-own Inv-loop μ-loop
-add-own c = search needs
-
-cast-own : tie.Need-cast-own Inv-loop μ-loop
-cast-own c = search needs
-
-mul-own : tie.Need-mul-own Inv-loop μ-loop
-mul-own c = search needs
-
-slice-write-own : tie.Need-slice-write-own Inv-loop μ-loop
-slice-write-own c = search needs
-
-loop-less : tie.Need-loop-less Inv-loop μ-loop
-loop-less c = search needs
-
 loop-again : tie.Need-loop-again Inv-loop μ-loop
 loop-again c =
     let placed = c .before .before .before .before in
@@ -87,18 +63,6 @@ loop-again c =
     let l = looking found in
     let new = is-new (found .before .before .before .if1 .taken) (found .find .ensures) (placed .before .before .before .if3 .taken) in
     (search needs, (search needs, (placed .put .ensures, owned-next (omega arith) (owner-new (l .loop-test .taken) new) (l .before .loop .inv .1 .1 .1))))
-
-cast-own-2 : tie.Need-cast-own-2 Inv-loop μ-loop
-cast-own-2 c = search needs
-
-mul-own-2 : tie.Need-mul-own-2 Inv-loop μ-loop
-mul-own-2 c = search needs
-
-slice-write-own-2 : tie.Need-slice-write-own-2 Inv-loop μ-loop
-slice-write-own-2 c = search needs
-
-loop-less-2 : tie.Need-loop-less-2 Inv-loop μ-loop
-loop-less-2 c = search needs
 
 loop-again-2 : tie.Need-loop-again-2 Inv-loop μ-loop
 loop-again-2 c =
@@ -108,15 +72,6 @@ loop-again-2 c =
     let old = is-old (found .find .ensures) (c .before .if2 .left) (c .if3 .left) in
     let owner = owner-old (l .loop-test .taken) (found .before .before .before .if1 .taken) (found .find .ensures) (c .before .if2 .left) (c .if3 .left) in
     (v .0, (v .1 .0, (table-skip (l .loop-test .taken) old (v .1 .1 .0), owned-next (omega arith) owner (v .1 .1 .1))))
-
-mul-own-3 : tie.Need-mul-own-3 Inv-loop μ-loop
-mul-own-3 c = search needs
-
-slice-write-own-3 : tie.Need-slice-write-own-3 Inv-loop μ-loop
-slice-write-own-3 c = search needs
-
-loop-less-3 : tie.Need-loop-less-3 Inv-loop μ-loop
-loop-less-3 c = search needs
 
 loop-again-3 : tie.Need-loop-again-3 Inv-loop μ-loop
 loop-again-3 c =
@@ -147,29 +102,29 @@ build-spec =
     Inv-loop
     μ-loop
     loop-holds
-    mul-c
-    shared-slice-read-c
-    add-j
+    (λ c. search needs)
+    (λ c. search needs)
+    (λ c. search needs)
     find-requires
     same-length
     same-length-2
     same-length-3
     returns
     put-requires
-    add-own
-    cast-own
-    mul-own
-    slice-write-own
-    loop-less
+    (λ c. search needs)
+    (λ c. search needs)
+    (λ c. search needs)
+    (λ c. search needs)
+    (λ c. search needs)
     loop-again
-    cast-own-2
-    mul-own-2
-    slice-write-own-2
-    loop-less-2
+    (λ c. search needs)
+    (λ c. search needs)
+    (λ c. search needs)
+    (λ c. search needs)
     loop-again-2
-    mul-own-3
-    slice-write-own-3
-    loop-less-3
+    (λ c. search needs)
+    (λ c. search needs)
+    (λ c. search needs)
     loop-again-3
     same-length-4
     same-length-5

@@ -9,9 +9,6 @@ use Rattle.hashed.proofs.owner_by_table.Tie as tie
 returns : tie.Need-returns
 returns c = own-none (c .before .before .before .before .args .second .now) (c .if1 .taken)
 
-find-requires : tie.Need-find-requires
-find-requires c κs = search needs
-
 cast-result : tie.Need-cast-result
 cast-result c = omega (arith, c .find .ensures .sure (omega arith))
 
@@ -20,4 +17,4 @@ returns-2 c = found-owner (c .before .if1 .left) (c .find .ensures)
 
 pub owner-by-table-spec : {M : Type 1} → statement M
 owner-by-table-spec =
-    tie.close (tie.spec returns find-requires cast-result returns-2)
+    tie.close (tie.spec returns (λ c κs. search needs) cast-result returns-2)

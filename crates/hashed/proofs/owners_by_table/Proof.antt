@@ -21,26 +21,11 @@ start l = l .before .before .before .before .before .before
 loop-holds : tie.Need-loop-holds Inv-loop μ-loop
 loop-holds c = (search needs, owned-start)
 
-mul-owner-by-table : tie.Need-mul-owner-by-table Inv-loop μ-loop
-mul-owner-by-table c = search needs
-
-shared-slice-read-owner-by-table : tie.Need-shared-slice-read-owner-by-table Inv-loop μ-loop
-shared-slice-read-owner-by-table c = search needs
-
-owner-by-table-requires : tie.Need-owner-by-table-requires Inv-loop μ-loop
-owner-by-table-requires c κs = search needs
-
 mul-own : tie.Need-mul-own Inv-loop μ-loop
 mul-own c = omega (arith, start (c .before .before .before) .good)
 
 slice-write-own : tie.Need-slice-write-own Inv-loop μ-loop
 slice-write-own c = omega arith
-
-add-i : tie.Need-add-i Inv-loop μ-loop
-add-i c = search needs
-
-loop-less : tie.Need-loop-less Inv-loop μ-loop
-loop-less c = search needs
 
 loop-again : tie.Need-loop-again Inv-loop μ-loop
 loop-again c = (search needs, owned-next (omega arith) (c .owner-by-table .ensures) (c .before .before .before .loop .inv .1))
@@ -58,13 +43,13 @@ owners-by-table-spec =
     Inv-loop
     μ-loop
     loop-holds
-    mul-owner-by-table
-    shared-slice-read-owner-by-table
-    owner-by-table-requires
+    (λ c. search needs)
+    (λ c. search needs)
+    (λ c κs. search needs)
     mul-own
     slice-write-own
-    add-i
-    loop-less
+    (λ c. search needs)
+    (λ c. search needs)
     loop-again
     same-length
     returns)

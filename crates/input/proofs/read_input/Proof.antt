@@ -14,20 +14,11 @@ Inv-loop input first₀ second₀ s₀ at₀ line₀ first second s at line = Re
 abbrev μ-loop : tie.MeasureT-loop
 μ-loop input first₀ second₀ s₀ at₀ line₀ first second s at line = length input - at
 
-no-settings-requires : tie.Need-no-settings-requires Inv-loop μ-loop
-no-settings-requires c κs = search needs
-
 loop-holds : tie.Need-loop-holds Inv-loop μ-loop
 loop-holds c = reading-start (c .no-settings .ensures)
 
-line-end-requires : tie.Need-line-end-requires Inv-loop μ-loop
-line-end-requires c κs = search needs
-
 add-line : tie.Need-add-line Inv-loop μ-loop
 add-line c = let l = c .before .before in omega (arith, l .loop .inv .lines, l .loop .inv .within)
-
-sub-take-line : tie.Need-sub-take-line Inv-loop μ-loop
-sub-take-line c = search needs
 
 part-take-line-start : tie.Need-part-take-line-start Inv-loop μ-loop
 part-take-line-start c = omega (arith, c .line-end .ensures .0)
@@ -40,9 +31,6 @@ take-line-requires c κs =
     let l = c .before .before .before .before .before in
     let s = l .before .before .before .before .before in
     safe (s .pre .0) (s .pre .1) (l .loop .inv)
-
-refuse-requires : tie.Need-refuse-requires Inv-loop μ-loop
-refuse-requires c κs = search needs
 
 same-length : tie.Need-same-length Inv-loop μ-loop
 same-length c =
@@ -87,9 +75,6 @@ loop-again c =
 add-refuse : tie.Need-add-refuse Inv-loop μ-loop
 add-refuse c = let l = c .before .before .before in omega (arith, l .loop .inv .lines, l .loop .inv .within)
 
-refuse-requires-2 : tie.Need-refuse-requires-2 Inv-loop μ-loop
-refuse-requires-2 c κs = search needs
-
 same-length-3 : tie.Need-same-length-3 Inv-loop μ-loop
 same-length-3 c = c .before .before .before .before .loop .inv .first-long
 
@@ -122,22 +107,22 @@ read-input-spec =
     (tie.spec
     Inv-loop
     μ-loop
-    no-settings-requires
+    (λ c κs. search needs)
     loop-holds
-    line-end-requires
+    (λ c κs. search needs)
     add-line
-    sub-take-line
+    (λ c. search needs)
     part-take-line-start
     part-take-line-end
     take-line-requires
-    refuse-requires
+    (λ c κs. search needs)
     same-length
     same-length-2
     returns
     loop-less
     loop-again
     add-refuse
-    refuse-requires-2
+    (λ c κs. search needs)
     same-length-3
     same-length-4
     returns-2

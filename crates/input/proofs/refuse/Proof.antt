@@ -4,12 +4,9 @@ use borrow.Author.Needs.{needs}
 use Rattle.input.proofs.refuse.Statement.{statement}
 use Rattle.input.proofs.refuse.Tie as tie
 
-no-settings-requires : tie.Need-no-settings-requires
-no-settings-requires c κs = search needs
-
 returns : tie.Need-returns
 unfolding refusedInput
 returns c = rw (c .no-settings .ensures)
 
 pub refuse-spec : {M : Type 1} → statement M
-refuse-spec = tie.close (tie.spec no-settings-requires returns)
+refuse-spec = tie.close (tie.spec (λ c κs. search needs) returns)

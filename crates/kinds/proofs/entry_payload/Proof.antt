@@ -6,36 +6,6 @@ use borrow.Author.Needs.{needs}
 use Rattle.kinds.proofs.entry_payload.Statement.{statement}
 use Rattle.kinds.proofs.entry_payload.Tie as tie
 
-slice-aggregate-put-number : tie.Need-slice-aggregate-put-number
-slice-aggregate-put-number c = search needs
-
-put-number-requires : tie.Need-put-number-requires
-put-number-requires c κs = search needs
-
-slice-aggregate-put-number-2 : tie.Need-slice-aggregate-put-number-2
-slice-aggregate-put-number-2 c = search needs
-
-put-number-requires-2 : tie.Need-put-number-requires-2
-put-number-requires-2 c κs = search needs
-
-slice-aggregate-put-number-3 : tie.Need-slice-aggregate-put-number-3
-slice-aggregate-put-number-3 c = search needs
-
-put-number-requires-3 : tie.Need-put-number-requires-3
-put-number-requires-3 c κs = search needs
-
-slice-aggregate-put-number-4 : tie.Need-slice-aggregate-put-number-4
-slice-aggregate-put-number-4 c = search needs
-
-put-number-requires-4 : tie.Need-put-number-requires-4
-put-number-requires-4 c κs = search needs
-
-slice-aggregate-put-number-5 : tie.Need-slice-aggregate-put-number-5
-slice-aggregate-put-number-5 c = search needs
-
-put-number-requires-5 : tie.Need-put-number-requires-5
-put-number-requires-5 c κs = search needs
-
 returns : tie.Need-returns
 unfolding entryPayload numberBytes
 returns c =
@@ -50,14 +20,14 @@ pub entry-payload-spec : {M : Type 1} → statement M
 entry-payload-spec =
     tie.close
     (tie.spec
-    slice-aggregate-put-number
-    put-number-requires
-    slice-aggregate-put-number-2
-    put-number-requires-2
-    slice-aggregate-put-number-3
-    put-number-requires-3
-    slice-aggregate-put-number-4
-    put-number-requires-4
-    slice-aggregate-put-number-5
-    put-number-requires-5
+    (λ c. search needs)
+    (λ c κs. search needs)
+    (λ c. search needs)
+    (λ c κs. search needs)
+    (λ c. search needs)
+    (λ c κs. search needs)
+    (λ c. search needs)
+    (λ c κs. search needs)
+    (λ c. search needs)
+    (λ c κs. search needs)
     returns)

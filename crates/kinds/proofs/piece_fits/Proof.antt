@@ -4,12 +4,9 @@ use borrow.Author.Needs.{needs}
 use Rattle.kinds.proofs.piece_fits.Statement.{statement}
 use Rattle.kinds.proofs.piece_fits.Tie as tie
 
-are-codes-requires : tie.Need-are-codes-requires
-are-codes-requires c κs = search needs
-
 returns : tie.Need-returns
 unfolding pieceFits codesFit
 returns c = rw (c .are-codes .ensures)
 
 pub piece-fits-spec : {M : Type 1} → statement M
-piece-fits-spec = tie.close (tie.spec are-codes-requires returns)
+piece-fits-spec = tie.close (tie.spec (λ c κs. search needs) returns)

@@ -16,17 +16,8 @@ Inv-loop s k out₀ mask code₀ run₀ n₀ out code run n = (n ≤ length s) �
 abbrev μ-loop : tie.MeasureT-loop
 μ-loop s k out₀ mask code₀ run₀ n₀ out code run n = length s - n
 
-mask-of-requires : tie.Need-mask-of-requires Inv-loop μ-loop
-mask-of-requires c κs = search needs
-
 loop-holds : tie.Need-loop-holds Inv-loop μ-loop
 loop-holds c = (search needs, rolled-start _ _, written-start _ _ _ (c .before .before .before .pre .0))
-
-shared-slice-read-base : tie.Need-shared-slice-read-base Inv-loop μ-loop
-shared-slice-read-base c = search needs
-
-base-requires : tie.Need-base-requires Inv-loop μ-loop
-base-requires c κs = search needs
 
 roll-requires : tie.Need-roll-requires Inv-loop μ-loop
 roll-requires c κs =
@@ -35,9 +26,6 @@ roll-requires c κs =
 
 add-run : tie.Need-add-run Inv-loop μ-loop
 add-run c = omega (arith, c .before .before .before .before .before .loop .inv .1 .within)
-
-add-n : tie.Need-add-n Inv-loop μ-loop
-add-n c = search needs
 
 -- the run after the letter, by either arm
 run-after : (c : tie.Joined1 Inv-loop μ-loop)
@@ -67,9 +55,6 @@ mul-out c =
     let l = c .before .before .before .before .before .before in
     scaled-fits _ (length (l .loop .out)) 8 (slice-write-out c) (omega (arith, l .before .before .before .before .good, l .loop .inv .2 .long))
 
-loop-less : tie.Need-loop-less Inv-loop μ-loop
-loop-less c = search needs
-
 loop-again : tie.Need-loop-again Inv-loop μ-loop
 loop-again c =
     let l = c .before .before .before .before .before .before in
@@ -77,9 +62,6 @@ loop-again c =
     let e : l .loop .n + 1 - a .k + a .k ≡ l .loop .n + 1 = omega (arith, c .before .if2 .taken) in
     let r = run-after (c .before .before) in
     (search needs, r, written-next _ _ _ _ _ _ _ e (slice-write-out c) (c .slot .ensures ∙ rolled-code _ _ _ _ _ _ e (search needs) r) (l .loop .inv .2))
-
-loop-less-2 : tie.Need-loop-less-2 Inv-loop μ-loop
-loop-less-2 c = search needs
 
 loop-again-2 : tie.Need-loop-again-2 Inv-loop μ-loop
 loop-again-2 c = (search needs, run-after (c .before), written-skip _ _ _ _ _ (c .if2 .left) (c .before .before .before .before .before .loop .inv .2))
@@ -96,19 +78,19 @@ fill-codes-spec =
     (tie.spec
     Inv-loop
     μ-loop
-    mask-of-requires
+    (λ c κs. search needs)
     loop-holds
-    shared-slice-read-base
-    base-requires
+    (λ c. search needs)
+    (λ c κs. search needs)
     roll-requires
     add-run
-    add-n
+    (λ c. search needs)
     slot-requires
     mul-out
     slice-write-out
-    loop-less
+    (λ c. search needs)
     loop-again
-    loop-less-2
+    (λ c. search needs)
     loop-again-2
     same-length
     returns)

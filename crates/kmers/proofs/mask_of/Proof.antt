@@ -7,12 +7,6 @@ use Rattle.kmers.proofs.Bits.{one-shifted}
 use Rattle.kmers.proofs.mask_of.Statement.{statement}
 use Rattle.kmers.proofs.mask_of.Tie as tie
 
-mul-result : tie.Need-mul-result
-mul-result c = search needs
-
-shl-result : tie.Need-shl-result
-shl-result c = search needs
-
 sub-result : tie.Need-sub-result
 sub-result c = omega (arith, one-shifted (c .args .k) (c .pre), pow-pos (2 * c .args .k))
 
@@ -20,4 +14,4 @@ returns : tie.Need-returns
 returns c = rw (one-shifted (c .args .k) (c .pre))
 
 pub mask-of-spec : {M : Type 1} → statement M
-mask-of-spec = tie.close (tie.spec mul-result shl-result sub-result returns)
+mask-of-spec = tie.close (tie.spec (λ c. search needs) (λ c. search needs) sub-result returns)

@@ -5,11 +5,8 @@ use lib.Bits.{and-mask}
 use Rattle.kmers.proofs.roll.Statement.{statement}
 use Rattle.kmers.proofs.roll.Tie as tie
 
-push-requires : tie.Need-push-requires
-push-requires c κs = search needs
-
 returns : tie.Need-returns
 returns c = rw (c .before .pre .1 .1, c .push .ensures) (and-mask _ (2 * c .before .args .k))
 
 pub roll-spec : {M : Type 1} → statement M
-roll-spec = tie.close (tie.spec push-requires returns)
+roll-spec = tie.close (tie.spec (λ c κs. search needs) returns)

@@ -17,26 +17,14 @@ abbrev μ-loop : tie.MeasureT-loop
 loop-holds : tie.Need-loop-holds Inv-loop μ-loop
 loop-holds c = search-start (c .before .args .s .now)
 
-shared-slice-read-code-in : tie.Need-shared-slice-read-code-in Inv-loop μ-loop
-shared-slice-read-code-in c = search needs
-
 code-in-requires : tie.Need-code-in-requires Inv-loop μ-loop
 unfolding capitalCodes
 code-in-requires c κs = refl
-
-add-result : tie.Need-add-result Inv-loop μ-loop
-add-result c = search needs
 
 returns : tie.Need-returns Inv-loop μ-loop
 returns c =
     let l = c .before .before .before .before in
     search-found _ _ (l .loop-test .taken) (l .before .loop .inv) (sym (c .before .code-in .ensures) ∙ c .if1 .taken)
-
-add-passed : tie.Need-add-passed Inv-loop μ-loop
-add-passed c = search needs
-
-loop-less : tie.Need-loop-less Inv-loop μ-loop
-loop-less c = search needs
 
 loop-again : tie.Need-loop-again Inv-loop μ-loop
 loop-again c =
@@ -53,11 +41,11 @@ bad-place-spec =
     Inv-loop
     μ-loop
     loop-holds
-    shared-slice-read-code-in
+    (λ c. search needs)
     code-in-requires
-    add-result
+    (λ c. search needs)
     returns
-    add-passed
-    loop-less
+    (λ c. search needs)
+    (λ c. search needs)
     loop-again
     returns-2)

@@ -9,8 +9,5 @@ code-in-requires : tie.Need-code-in-requires
 unfolding capitalCodes
 code-in-requires c κs = refl
 
-returns : tie.Need-returns
-returns c = search needs
-
 pub code-spec : {M : Type 1} → statement M
-code-spec = tie.close (tie.spec code-in-requires returns)
+code-spec = tie.close (tie.spec code-in-requires (λ c. search needs))

@@ -4,15 +4,6 @@ use Rattle.letters.proofs.Complements.{bits-small, complement-read}
 use Rattle.letters.proofs.complement_in.Statement.{statement}
 use Rattle.letters.proofs.complement_in.Tie as tie
 
-code-in-requires : tie.Need-code-in-requires
-code-in-requires c κs = search needs
-
-reversed-bits-requires : tie.Need-reversed-bits-requires
-reversed-bits-requires c κs = search needs
-
-cast-result : tie.Need-cast-result
-cast-result c = search needs
-
 element-copy-out-result : tie.Need-element-copy-out-result
 element-copy-out-result c = bits-small _ (c .before .code-in .ensures) (c .reversed-bits .ensures)
 
@@ -24,4 +15,4 @@ returns c =
 pub complement-in-spec : {M : Type 1} → statement M
 complement-in-spec =
     tie.close
-    (tie.spec code-in-requires reversed-bits-requires cast-result element-copy-out-result returns)
+    (tie.spec (λ c κs. search needs) (λ c κs. search needs) (λ c. search needs) element-copy-out-result returns)

@@ -6,9 +6,6 @@ use Rattle.rules.proofs.Letters.{no-letter}
 use Rattle.letters.proofs.letter.Statement.{statement}
 use Rattle.letters.proofs.letter.Tie as tie
 
-array-read-result : tie.Need-array-read-result
-array-read-result c = search needs
-
 returns : tie.Need-returns
 unfolding letterOf
 returns c = refl
@@ -17,4 +14,4 @@ returns-2 : tie.Need-returns-2
 returns-2 c = sym (no-letter (c .before .args .code) (c .if1 .left))
 
 pub letter-spec : {M : Type 1} → statement M
-letter-spec = tie.close (tie.spec array-read-result returns returns-2)
+letter-spec = tie.close (tie.spec (λ c. search needs) returns returns-2)

@@ -26,15 +26,6 @@ at-loop c = in-loop c .before
 loop-holds : tie.Need-loop-holds Inv-loop μ-loop
 loop-holds c = turning-start _ _ (c .before .before .pre)
 
-sub-complement-in : tie.Need-sub-complement-in Inv-loop μ-loop
-sub-complement-in c = search needs
-
-sub-complement-in-2 : tie.Need-sub-complement-in-2 Inv-loop μ-loop
-sub-complement-in-2 c = search needs
-
-shared-slice-read-complement-in : tie.Need-shared-slice-read-complement-in Inv-loop μ-loop
-shared-slice-read-complement-in c = search needs
-
 complement-in-requires : tie.Need-complement-in-requires Inv-loop μ-loop
 unfolding capitalCodes letterTable
 complement-in-requires c κs = (refl, refl)
@@ -44,12 +35,6 @@ slice-write-out c =
     let at = at-loop c in
     let v = at .loop .inv in
     omega (arith, v .room, turning-long v, in-loop c .loop-test .taken)
-
-add-turned : tie.Need-add-turned Inv-loop μ-loop
-add-turned c = search needs
-
-loop-less : tie.Need-loop-less Inv-loop μ-loop
-loop-less c = search needs
 
 loop-again : tie.Need-loop-again Inv-loop μ-loop
 loop-again c = turning-next (at-loop c .loop .inv) (in-loop c .loop-test .taken) (c .complement-in .ensures)
@@ -67,13 +52,13 @@ reverse-complement-spec =
     Inv-loop
     μ-loop
     loop-holds
-    sub-complement-in
-    sub-complement-in-2
-    shared-slice-read-complement-in
+    (λ c. search needs)
+    (λ c. search needs)
+    (λ c. search needs)
     complement-in-requires
     slice-write-out
-    add-turned
-    loop-less
+    (λ c. search needs)
+    (λ c. search needs)
     loop-again
     same-length
     returns)

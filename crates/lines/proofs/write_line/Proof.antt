@@ -11,43 +11,10 @@ returns c =
     let a = c .before .before .before .args in
     refuses _ (a .out .now) _ (payload-long (a .kind) (a .payload .now) (a .out .now) (c .if1 .taken))
 
-mul-feed : tie.Need-mul-feed
-mul-feed c = search needs
-
-add-feed : tie.Need-add-feed
-add-feed c = search needs
-
 returns-2 : tie.Need-returns-2
 returns-2 c =
     let a = c .before .before .before .before .args in
     refuses _ (a .out .now) _ (slice-short (a .kind) (a .payload .now) (a .out .now) (c .before .if1 .left) (c .if2 .taken))
-
-cast-size : tie.Need-cast-size
-cast-size c = search needs
-
-put-byte-requires : tie.Need-put-byte-requires
-put-byte-requires c κs = search needs
-
-put-byte-requires-2 : tie.Need-put-byte-requires-2
-put-byte-requires-2 c κs = search needs
-
-put-bytes-requires : tie.Need-put-bytes-requires
-put-bytes-requires c κs = search needs
-
-check-requires : tie.Need-check-requires
-check-requires c κs = search needs
-
-sub-put-byte : tie.Need-sub-put-byte
-sub-put-byte c = search needs
-
-put-byte-requires-3 : tie.Need-put-byte-requires-3
-put-byte-requires-3 c κs = search needs
-
-slice-write-out : tie.Need-slice-write-out
-slice-write-out c = search needs
-
-add-t8 : tie.Need-add-t8
-add-t8 c = search needs
 
 same-length : tie.Need-same-length
 same-length c =
@@ -76,17 +43,17 @@ write-line-spec =
     tie.close
     (tie.spec
     returns
-    mul-feed
-    add-feed
+    (λ c. search needs)
+    (λ c. search needs)
     returns-2
-    cast-size
-    put-byte-requires
-    put-byte-requires-2
-    put-bytes-requires
-    check-requires
-    sub-put-byte
-    put-byte-requires-3
-    slice-write-out
-    add-t8
+    (λ c. search needs)
+    (λ c κs. search needs)
+    (λ c κs. search needs)
+    (λ c κs. search needs)
+    (λ c κs. search needs)
+    (λ c. search needs)
+    (λ c κs. search needs)
+    (λ c. search needs)
+    (λ c. search needs)
     same-length
     returns-3)

@@ -33,29 +33,17 @@ inside c = omega (arith, c .before .loop .inv .0 .inside, c .before .before .bef
 slide-requires : tie.Need-slide-requires Inv-loop μ-loop
 slide-requires c κs = (inside (c .before), c .before .before .loop .inv .1)
 
-long-requires : tie.Need-long-requires Inv-loop μ-loop
-long-requires c κs = search needs
-
-wrapping-add-u64-requires : tie.Need-wrapping-add-u64-requires Inv-loop μ-loop
-wrapping-add-u64-requires c κs = search needs
-
 mul-wrapping-add-u32 : tie.Need-mul-wrapping-add-u32 Inv-loop μ-loop
 mul-wrapping-add-u32 c = omega arith
 
 element-copy-out-wrapping-add-u32 : tie.Need-element-copy-out-wrapping-add-u32 Inv-loop μ-loop
 element-copy-out-wrapping-add-u32 c = omega (arith, inside (walking c))
 
-wrapping-add-u32-requires : tie.Need-wrapping-add-u32-requires Inv-loop μ-loop
-wrapping-add-u32-requires c κs = search needs
-
 mul-counts : tie.Need-mul-counts Inv-loop μ-loop
 mul-counts c = omega arith
 
 element-write-counts : tie.Need-element-write-counts Inv-loop μ-loop
 element-write-counts c = omega (arith, inside (walking (c .before .before)))
-
-wrapping-add-u32-requires-2 : tie.Need-wrapping-add-u32-requires-2 Inv-loop μ-loop
-wrapping-add-u32-requires-2 c κs = search needs
 
 sub-wide : tie.Need-sub-wide Inv-loop μ-loop
 sub-wide c = omega arith
@@ -67,9 +55,6 @@ shared-slice-read-wide : tie.Need-shared-slice-read-wide Inv-loop μ-loop
 shared-slice-read-wide c =
     let more = c .before .before in
     omega (arith, walking (more .before .before) .before .loop .inv .0 .inside)
-
-wide-requires : tie.Need-wide-requires Inv-loop μ-loop
-wide-requires c κs = search needs
 
 loop-less : tie.Need-loop-less Inv-loop μ-loop
 loop-less c =
@@ -107,18 +92,18 @@ add-row-spec =
     μ-loop
     loop-holds
     slide-requires
-    long-requires
-    wrapping-add-u64-requires
+    (λ c κs. search needs)
+    (λ c κs. search needs)
     mul-wrapping-add-u32
     element-copy-out-wrapping-add-u32
-    wrapping-add-u32-requires
+    (λ c κs. search needs)
     mul-counts
     element-write-counts
-    wrapping-add-u32-requires-2
+    (λ c κs. search needs)
     sub-wide
     mul-wide
     shared-slice-read-wide
-    wide-requires
+    (λ c κs. search needs)
     loop-less
     loop-again
     returns)

@@ -30,9 +30,6 @@ mul-wide c = omega arith
 shared-slice-read-wide : tie.Need-shared-slice-read-wide Inv-loop μ-loop
 shared-slice-read-wide c = omega arith
 
-wide-requires : tie.Need-wide-requires Inv-loop μ-loop
-wide-requires c κs = search needs
-
 add-row-requires : tie.Need-add-row-requires Inv-loop μ-loop
 add-row-requires c κs =
     let w = c .before in
@@ -76,7 +73,7 @@ count-links-spec =
     release-requires
     mul-wide
     shared-slice-read-wide
-    wide-requires
+    (λ c κs. search needs)
     add-row-requires
     add-p
     loop-less

@@ -12,21 +12,6 @@ returns c =
     let a = c .before .before .before .args in
     (released-none (a .firsts .now) (a .nexts .now) (a .b) (a .p) (a .counts .now) (c .if1 .taken), c .before .before .before .pre .1 .1)
 
-sub-wide : tie.Need-sub-wide
-sub-wide c = search needs
-
-sub-wide-2 : tie.Need-sub-wide-2
-sub-wide-2 c = search needs
-
-mul-wide : tie.Need-mul-wide
-mul-wide c = search needs
-
-shared-slice-read-wide : tie.Need-shared-slice-read-wide
-shared-slice-read-wide c = search needs
-
-wide-requires : tie.Need-wide-requires
-wide-requires c κs = search needs
-
 release-row-requires : tie.Need-release-row-requires
 release-row-requires c κs =
     let w = c .before in
@@ -49,10 +34,10 @@ release-spec =
     tie.close
     (tie.spec
     returns
-    sub-wide
-    sub-wide-2
-    mul-wide
-    shared-slice-read-wide
-    wide-requires
+    (λ c. search needs)
+    (λ c. search needs)
+    (λ c. search needs)
+    (λ c. search needs)
+    (λ c κs. search needs)
     release-row-requires
     returns-2)

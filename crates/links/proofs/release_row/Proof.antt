@@ -32,9 +32,6 @@ element-copy-out-wrapping-sub-u32 c =
     let l = c .before in
     omega (arith, l .loop .inv .0 .inside, l .before .before .pre .0 .few-columns)
 
-wrapping-sub-u32-requires : tie.Need-wrapping-sub-u32-requires Inv-loop μ-loop
-wrapping-sub-u32-requires c κs = search needs
-
 mul-counts : tie.Need-mul-counts Inv-loop μ-loop
 mul-counts c = omega arith
 
@@ -42,9 +39,6 @@ element-write-counts : tie.Need-element-write-counts Inv-loop μ-loop
 element-write-counts c =
     let l = walking c in
     omega (arith, l .loop .inv .0 .inside, l .before .before .pre .0 .few-columns)
-
-without-requires : tie.Need-without-requires Inv-loop μ-loop
-without-requires c κs = search needs
 
 sub-wide : tie.Need-sub-wide Inv-loop μ-loop
 sub-wide c = omega arith
@@ -54,9 +48,6 @@ mul-wide c = omega arith
 
 shared-slice-read-wide : tie.Need-shared-slice-read-wide Inv-loop μ-loop
 shared-slice-read-wide c = omega (arith, walking (c .before .before) .loop .inv .0 .inside)
-
-wide-requires : tie.Need-wide-requires Inv-loop μ-loop
-wide-requires c κs = search needs
 
 loop-less : tie.Need-loop-less Inv-loop μ-loop
 loop-less c =
@@ -91,14 +82,14 @@ release-row-spec =
     loop-holds
     mul-wrapping-sub-u32
     element-copy-out-wrapping-sub-u32
-    wrapping-sub-u32-requires
+    (λ c κs. search needs)
     mul-counts
     element-write-counts
-    without-requires
+    (λ c κs. search needs)
     sub-wide
     mul-wide
     shared-slice-read-wide
-    wide-requires
+    (λ c κs. search needs)
     loop-less
     loop-again
     returns)

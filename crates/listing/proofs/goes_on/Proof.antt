@@ -10,15 +10,6 @@ use Rattle.listing.proofs.goes_on.Tie as tie
 returns : tie.Need-returns
 returns c = let a = c .before .args in sym (later-outside (a .latest .now) (a .t) (a .q) (c .if1 .taken))
 
-add-result : tie.Need-add-result
-add-result c = search needs
-
-mul-result : tie.Need-mul-result
-mul-result c = search needs
-
-shared-slice-read-result : tie.Need-shared-slice-read-result
-shared-slice-read-result c = search needs
-
 cast-result : tie.Need-cast-result
 cast-result c = omega (arith, c .shared-slice-known .given (c .before .before .args .q))
 
@@ -27,4 +18,4 @@ unfolding laterIn
 returns-2 c = refl
 
 pub goes-on-spec : {M : Type 1} → statement M
-goes-on-spec = tie.close (tie.spec returns add-result mul-result shared-slice-read-result cast-result returns-2)
+goes-on-spec = tie.close (tie.spec returns (λ c. search needs) (λ c. search needs) (λ c. search needs) cast-result returns-2)

@@ -10,18 +10,10 @@ use borrow.Author.Needs.{needs}
 use Rattle.listing.proofs.is_listed.Statement.{statement}
 use Rattle.listing.proofs.is_listed.Tie as tie
 
-cast-m : tie.Need-cast-m
-cast-m c = search needs
-
-span-requires : tie.Need-span-requires
-span-requires c κs = search needs
-
 returns : tie.Need-returns
 unfolding firstSpan
-returns c = let d = c .before in let a = d .before .before .before .args in sym (first-short (a .latest .now) (a .t) (a .x) (a .c) (omega (arith, c .if1 .taken, d .span .ensures)))
-
-span-requires-2 : tie.Need-span-requires-2
-span-requires-2 c κs = search needs
+returns c = let d = c .before in let a = d .before .before .before .args in
+    sym (first-short (a .latest .now) (a .t) (a .x) (a .c) (omega (arith, c .if1 .taken, d .span .ensures)))
 
 returns-2 : tie.Need-returns-2
 unfolding secondSpan
@@ -30,12 +22,6 @@ returns-2 c =
     let d = e .before .before in
     let a = d .before .before .before .args in
     sym (second-short (a .latest .now) (a .t) (a .x) (a .c) (omega (arith, c .if2 .taken, e .span2 .ensures)))
-
-wide-requires : tie.Need-wide-requires
-wide-requires c κs = search needs
-
-wide-requires-2 : tie.Need-wide-requires-2
-wide-requires-2 c κs = search needs
 
 is-open-requires : tie.Need-is-open-requires
 is-open-requires c κs =
@@ -77,13 +63,13 @@ pub is-listed-spec : {M : Type 1} → statement M
 is-listed-spec =
     tie.close
     (tie.spec
-    cast-m
-    span-requires
+    (λ c. search needs)
+    (λ c κs. search needs)
     returns
-    span-requires-2
+    (λ c κs. search needs)
     returns-2
-    wide-requires
-    wide-requires-2
+    (λ c κs. search needs)
+    (λ c κs. search needs)
     is-open-requires
     returns-3
     returns-4)

@@ -20,12 +20,6 @@ loop-holds c =
     let a = c .before .args in
     (omega arith, some-none (laterIn (a .latest .now) (a .t)) (a .j))
 
-add-goes-on : tie.Need-add-goes-on Inv-loop μ-loop
-add-goes-on c = search needs
-
-goes-on-requires : tie.Need-goes-on-requires Inv-loop μ-loop
-goes-on-requires c κs = search needs
-
 returns : tie.Need-returns Inv-loop μ-loop
 returns c =
     let g = c .before in
@@ -33,9 +27,6 @@ returns c =
     let a = l .before .before .args in
     let z = g .before .loop-test .taken in
     sym (some-found (laterIn (a .latest .now) (a .t)) (a .j) (l .loop .n) (a .b) (omega arith) (sym (g .goes-on .ensures) ∙ c .if1 .taken))
-
-add-n : tie.Need-add-n Inv-loop μ-loop
-add-n c = search needs
 
 loop-less : tie.Need-loop-less Inv-loop μ-loop
 loop-less c = let z = c .before .before .loop-test .taken in omega arith
@@ -57,4 +48,4 @@ returns-2 c =
     sym (ap (someFrom (laterIn (a .latest .now) (a .t)) (a .j)) (sym e) ∙ l .loop .inv .1)
 
 pub is-open-spec : {M : Type 1} → statement M
-is-open-spec = tie.close (tie.spec Inv-loop μ-loop loop-holds add-goes-on goes-on-requires returns add-n loop-less loop-again returns-2)
+is-open-spec = tie.close (tie.spec Inv-loop μ-loop loop-holds (λ c. search needs) (λ c κs. search needs) returns (λ c. search needs) loop-less loop-again returns-2)

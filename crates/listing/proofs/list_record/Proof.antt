@@ -7,21 +7,9 @@ use borrow.Author.Needs.{needs}
 use Rattle.listing.proofs.list_record.Statement.{statement}
 use Rattle.listing.proofs.list_record.Tie as tie
 
-is-listed-requires : tie.Need-is-listed-requires
-is-listed-requires c κs = search needs
-
-entry-count-requires : tie.Need-entry-count-requires
-entry-count-requires c κs = search needs
-
 put-entry-requires : tie.Need-put-entry-requires
 unfolding listHolds
 put-entry-requires c κs = (omega (arith, c .before .if2 .taken, c .before .before .entry-count .ensures), search needs)
-
-add-result : tie.Need-add-result
-add-result c = search needs
-
-same-length : tie.Need-same-length
-same-length c = search needs
 
 returns : tie.Need-returns
 returns c =
@@ -31,12 +19,6 @@ returns c =
     let l = y .before in
     let pass = sym (l .is-listed .ensures) ∙ y .if1 .taken in
     (count-yes _ _ pass, room-put _ _ _ _ _ pass (omega (arith, f .if2 .taken, f .before .entry-count .ensures)) (d .put-entry .ensures))
-
-add-result-2 : tie.Need-add-result-2
-add-result-2 c = search needs
-
-same-length-2 : tie.Need-same-length-2
-same-length-2 c = search needs
 
 returns-2 : tie.Need-returns-2
 returns-2 c =
@@ -53,13 +35,13 @@ pub list-record-spec : {M : Type 1} → statement M
 list-record-spec =
     tie.close
     (tie.spec
-    is-listed-requires
-    entry-count-requires
+    (λ c κs. search needs)
+    (λ c κs. search needs)
     put-entry-requires
-    add-result
-    same-length
+    (λ c. search needs)
+    (λ c. search needs)
     returns
-    add-result-2
-    same-length-2
+    (λ c. search needs)
+    (λ c. search needs)
     returns-2
     returns-3)

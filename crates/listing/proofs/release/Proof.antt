@@ -12,9 +12,6 @@ Inv-loop room latest ring tail head c i list₀ listed b t₀ n₀ list t n = Re
 abbrev μ-loop : tie.MeasureT-loop
 μ-loop room latest ring tail head c i list₀ listed b t₀ n₀ list t n = head - t
 
-wide-requires : tie.Need-wide-requires Inv-loop μ-loop
-wide-requires c κs = search needs
-
 loop-holds : tie.Need-loop-holds Inv-loop μ-loop
 loop-holds c = let s = c .before .before .before .before in releasing-start (s .pre)
 
@@ -30,9 +27,6 @@ record-at-requires c κs =
     let w = l .before in
     let s = w .before .before .before .before in
     omega (arith, c .slot .ensures .1, s .pre .room-for)
-
-wide-requires-2 : tie.Need-wide-requires-2 Inv-loop μ-loop
-wide-requires-2 c κs = search needs
 
 add-if1 : tie.Need-add-if1 Inv-loop μ-loop
 add-if1 c = omega (arith, c .wide2 .ensures .1, c .before .before .before .before .before .wide .ensures .1)
@@ -91,7 +85,8 @@ loop-again c =
     let v = l .loop in
     let d = c .before .before in
     releasing-next (s .pre) (v .inv) (q .before .loop-test .taken) (q .slot .ensures .0) (r .record-at .ensures)
-    (omega (arith, d .before .before .if1 .left, d .before .before .before .wide2 .ensures .0, w .wide .ensures .0)) (d .list-record .ensures .0) (d .list-record .ensures .1)
+    (omega (arith, d .before .before .if1 .left, d .before .before .before .wide2 .ensures .0, w .wide .ensures .0)) (d .list-record .ensures .0)
+    (d .list-record .ensures .1)
 
 same-length-2 : tie.Need-same-length-2 Inv-loop μ-loop
 same-length-2 c = c .before .loop .inv .size
@@ -109,12 +104,12 @@ release-spec =
     (tie.spec
     Inv-loop
     μ-loop
-    wide-requires
+    (λ c κs. search needs)
     loop-holds
     add-slot
     slot-requires
     record-at-requires
-    wide-requires-2
+    (λ c κs. search needs)
     add-if1
     same-length
     returns

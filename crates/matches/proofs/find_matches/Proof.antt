@@ -27,21 +27,6 @@ linked c = c .before .before .before .before .before .before .before
 
 -- ---- the needs
 
-slice-aggregate-own-all : tie.Need-slice-aggregate-own-all
-slice-aggregate-own-all c = search needs
-
-own-all-requires : tie.Need-own-all-requires
-own-all-requires c κs = search needs
-
-slice-aggregate-link-columns : tie.Need-slice-aggregate-link-columns
-slice-aggregate-link-columns c = search needs
-
-slice-aggregate-link-columns-2 : tie.Need-slice-aggregate-link-columns-2
-slice-aggregate-link-columns-2 c = search needs
-
-slice-aggregate-link-columns-3 : tie.Need-slice-aggregate-link-columns-3
-slice-aggregate-link-columns-3 c = search needs
-
 link-columns-requires : tie.Need-link-columns-requires
 link-columns-requires c κs =
     let o = c .before .before .before .before .before .before .before in
@@ -51,9 +36,6 @@ link-columns-requires c κs =
     let z = all-zeros 16384 in
     (few, (omega (arith, few, own .long, room), (omega (arith, few, room), (omega (arith, few, room), (s .1 .1 .1, (owned-owns own, (z, z)))))))
 
-slice-aggregate-count-rows : tie.Need-slice-aggregate-count-rows
-slice-aggregate-count-rows c = search needs
-
 count-rows-requires : tie.Need-count-rows-requires
 count-rows-requires c κs =
     let l = c .before .before .before .before .before .before in
@@ -62,9 +44,6 @@ count-rows-requires c κs =
     let heads = owned l .own-all .ensures .1 in
     let small = tally-upto (s .1 .0) (all-zeros 16384) counted in
     (omega (arith, s .1 .1 .0, heads .long), (omega (arith, s .0), (owned-upto (omega arith) (omega (arith, s .1 .0, counted .sums .long, room)) heads, small)))
-
-slice-aggregate-cap : tie.Need-slice-aggregate-cap
-slice-aggregate-cap c = search needs
 
 cap-requires : tie.Need-cap-requires
 cap-requires c κs =
@@ -77,12 +56,6 @@ cap-requires c κs =
       struck-upto (counted .1 .0)
           (owned-upto (omega arith) (omega (arith, s .1 .0, same, counted .0 .sums .long, room)) heads),
     )
-
-same-length : tie.Need-same-length
-same-length c = search needs
-
-same-length-2 : tie.Need-same-length-2
-same-length-2 c = search needs
 
 returns : tie.Need-returns
 returns c =
@@ -98,12 +71,6 @@ returns c =
           (capped .cap .ensures)),
       links .0,
     )
-
-same-length-3 : tie.Need-same-length-3
-same-length-3 c = search needs
-
-same-length-4 : tie.Need-same-length-4
-same-length-4 c = search needs
 
 returns-2 : tie.Need-returns-2
 returns-2 c =
@@ -123,19 +90,19 @@ pub find-matches-spec : {M : Type 1} → statement M
 find-matches-spec =
     tie.close
     (tie.spec
-    slice-aggregate-own-all
-    own-all-requires
-    slice-aggregate-link-columns
-    slice-aggregate-link-columns-2
-    slice-aggregate-link-columns-3
+    (λ c. search needs)
+    (λ c κs. search needs)
+    (λ c. search needs)
+    (λ c. search needs)
+    (λ c. search needs)
     link-columns-requires
-    slice-aggregate-count-rows
+    (λ c. search needs)
     count-rows-requires
-    slice-aggregate-cap
+    (λ c. search needs)
     cap-requires
-    same-length
-    same-length-2
+    (λ c. search needs)
+    (λ c. search needs)
     returns
-    same-length-3
-    same-length-4
+    (λ c. search needs)
+    (λ c. search needs)
     returns-2)

@@ -10,11 +10,11 @@ use Rattle.nexts.proofs.link_columns.Statement.{statement}
 use Rattle.nexts.proofs.link_columns.Tie as tie
 
 abbrev Inv-loop : tie.InvT-loop
-Inv-loop second own a tail₀ count₀ nexts₀ k₀ tail count nexts k =
-    Linking second tail₀ tail nexts₀ nexts k × TalliedFrom own (length second) k a count₀ count
+Inv-loop second own a tail₀ count₀ nexts₀ p₀ tail count nexts p =
+    Linking second tail₀ tail nexts₀ nexts p × TalliedFrom own (length second) p a count₀ count
 
 abbrev μ-loop : tie.MeasureT-loop
-μ-loop second own a tail₀ count₀ nexts₀ k₀ tail count nexts k = k
+μ-loop second own a tail₀ count₀ nexts₀ p₀ tail count nexts p = p
 
 -- where the call starts, from a turn of the loop
 abbrev start : tie.At-loop Inv-loop μ-loop → tie.Start Inv-loop μ-loop
@@ -30,7 +30,7 @@ owner-there c =
     let read = c .before in
     let l = read .before .before .before in
     let room = start l .pre .1 .1 in
-    owner-in (l .loop .k - 1) (omega arith) (room .0) (room .1 .1 .0) (room .1 .1 .1 .0) (read .wide .ensures .0) (l .loop .inv .0) (c .if1 .left)
+    owner-in (l .loop .p - 1) (omega arith) (room .0) (room .1 .1 .0) (room .1 .1 .1 .0) (read .wide .ensures .0) (l .loop .inv .0) (c .if1 .left)
 
 count-there : (c : tie.Else1 Inv-loop μ-loop) → c .before .wide .result - 1 < length (turning c .loop .count)
 count-there c =
@@ -42,26 +42,11 @@ loop-holds c =
     let zeros = c .before .before .before .before .before .pre .1 .1 .1 .1 .1 .1 in
     (linking-start (zeros .0), from-start (zeros .1))
 
-sub-k : tie.Need-sub-k Inv-loop μ-loop
-sub-k c = search needs
-
-mul-wide : tie.Need-mul-wide Inv-loop μ-loop
-mul-wide c = search needs
-
-shared-slice-read-wide : tie.Need-shared-slice-read-wide Inv-loop μ-loop
-shared-slice-read-wide c = search needs
-
-wide-requires : tie.Need-wide-requires Inv-loop μ-loop
-wide-requires c κs = search needs
-
 mul-nexts : tie.Need-mul-nexts Inv-loop μ-loop
 mul-nexts c = omega (arith, start (c .before .before .before .before) .good)
 
 slice-write-nexts : tie.Need-slice-write-nexts Inv-loop μ-loop
 slice-write-nexts c = omega arith
-
-loop-less : tie.Need-loop-less Inv-loop μ-loop
-loop-less c = search needs
 
 loop-again : tie.Need-loop-again Inv-loop μ-loop
 loop-again c =
@@ -70,12 +55,9 @@ loop-again c =
     let l = read .before .before .before in
     let room = start l .pre .1 .1 in
     let i = l .loop .inv in (
-      linking-skip (l .loop .k - 1) (omega arith) (room .0) (room .1 .1 .0) (room .1 .1 .1 .0) e (i .0) (c .if1 .taken),
-      from-skip (l .loop .k - 1) (omega arith) (omega arith) e (i .1) (c .if1 .taken),
+      linking-skip (l .loop .p - 1) (omega arith) (room .0) (room .1 .1 .0) (room .1 .1 .1 .0) e (i .0) (c .if1 .taken),
+      from-skip (l .loop .p - 1) (omega arith) (omega arith) e (i .1) (c .if1 .taken),
     )
-
-sub-q : tie.Need-sub-q Inv-loop μ-loop
-sub-q c = search needs
 
 mul-t : tie.Need-mul-t Inv-loop μ-loop
 mul-t c = omega (arith, owner-there c, start (turning c) .good)
@@ -88,12 +70,6 @@ mul-nexts-2 c = omega (arith, start (turning (c .before)) .good)
 
 slice-write-nexts-2 : tie.Need-slice-write-nexts-2 Inv-loop μ-loop
 slice-write-nexts-2 c = omega arith
-
-add-tail : tie.Need-add-tail Inv-loop μ-loop
-add-tail c = search needs
-
-cast-tail : tie.Need-cast-tail Inv-loop μ-loop
-cast-tail c = search needs
 
 mul-tail : tie.Need-mul-tail Inv-loop μ-loop
 mul-tail c = omega (arith, owner-there (c .before), start (turning (c .before)) .good)
@@ -113,7 +89,7 @@ count-on-requires c κs =
     let read = else .before in
     let l = read .before .before .before in
     let s = start l .pre in
-    from-small (l .loop .k - 1) (omega arith) (omega arith) (read .wide .ensures .0) (l .loop .inv .1) (else .if1 .left) (count-there else)
+    from-small (l .loop .p - 1) (omega arith) (omega arith) (read .wide .ensures .0) (l .loop .inv .1) (else .if1 .left) (count-there else)
     (s .1 .1 .1 .1 .1 .1 .1) (s .0)
 
 mul-count : tie.Need-mul-count Inv-loop μ-loop
@@ -124,9 +100,6 @@ mul-count c =
 slice-write-count : tie.Need-slice-write-count Inv-loop μ-loop
 slice-write-count c = omega (arith, count-there (c .before .before .before))
 
-loop-less-2 : tie.Need-loop-less-2 Inv-loop μ-loop
-loop-less-2 c = search needs
-
 loop-again-2 : tie.Need-loop-again-2 Inv-loop μ-loop
 loop-again-2 c =
     let else = c .before .before .before in
@@ -135,8 +108,8 @@ loop-again-2 c =
     let l = read .before .before .before in
     let room = start l .pre .1 .1 in
     let i = l .loop .inv in (
-      linking-next (l .loop .k - 1) (omega arith) (room .0) (room .1 .1 .0) (room .1 .1 .1 .0) e (i .0) (else .if1 .left) (omega arith),
-      rw (c .count-on .ensures) (from-next (l .loop .k - 1) (omega arith) (omega arith) e (i .1) (else .if1 .left) (count-there else)),
+      linking-next (l .loop .p - 1) (omega arith) (room .0) (room .1 .1 .0) (room .1 .1 .1 .0) e (i .0) (else .if1 .left) (omega arith),
+      rw (c .count-on .ensures) (from-next (l .loop .p - 1) (omega arith) (omega arith) e (i .1) (else .if1 .left) (count-there else)),
     )
 
 same-length : tie.Need-same-length Inv-loop μ-loop
@@ -158,21 +131,21 @@ link-columns-spec =
     Inv-loop
     μ-loop
     loop-holds
-    sub-k
-    mul-wide
-    shared-slice-read-wide
-    wide-requires
+    (λ c. search needs)
+    (λ c. search needs)
+    (λ c. search needs)
+    (λ c κs. search needs)
     mul-nexts
     slice-write-nexts
-    loop-less
+    (λ c. search needs)
     loop-again
-    sub-q
+    (λ c. search needs)
     mul-t
     slice-read-t
     mul-nexts-2
     slice-write-nexts-2
-    add-tail
-    cast-tail
+    (λ c. search needs)
+    (λ c. search needs)
     mul-tail
     slice-write-tail
     mul-count-on
@@ -180,7 +153,7 @@ link-columns-spec =
     count-on-requires
     mul-count
     slice-write-count
-    loop-less-2
+    (λ c. search needs)
     loop-again-2
     same-length
     same-length-2

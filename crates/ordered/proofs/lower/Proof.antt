@@ -20,9 +20,6 @@ between c = middle (c .loop-test .taken)
 loop-holds : tie.Need-loop-holds Inv-loop μ-loop
 loop-holds c = lower-start
 
-sub-mid : tie.Need-sub-mid Inv-loop μ-loop
-sub-mid c = search needs
-
 add-mid : tie.Need-add-mid Inv-loop μ-loop
 add-mid c = omega (arith, between c, c .before .before .before .before .good)
 
@@ -31,9 +28,6 @@ mul-code-at c = omega (arith, between c, c .before .before .before .before .good
 
 shared-slice-read-code-at : tie.Need-shared-slice-read-code-at Inv-loop μ-loop
 shared-slice-read-code-at c = omega (arith, between (c .before))
-
-code-at-requires : tie.Need-code-at-requires Inv-loop μ-loop
-code-at-requires c κs = search needs
 
 add-lo : tie.Need-add-lo Inv-loop μ-loop
 add-lo c = omega (arith, between (c .before .before .before), c .before .before .before .before .before .before .before .good)
@@ -66,11 +60,11 @@ lower-spec =
     Inv-loop
     μ-loop
     loop-holds
-    sub-mid
+    (λ c. search needs)
     add-mid
     mul-code-at
     shared-slice-read-code-at
-    code-at-requires
+    (λ c κs. search needs)
     add-lo
     loop-less
     loop-again

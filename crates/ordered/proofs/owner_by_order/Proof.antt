@@ -10,22 +10,10 @@ use Rattle.ordered.proofs.owner_by_order.Tie as tie
 returns : tie.Need-returns
 returns c = own-none (c .before .before .before .args .second .now) (c .if1 .taken)
 
-lower-requires : tie.Need-lower-requires
-lower-requires c κs = search needs
-
 returns-2 : tie.Need-returns-2
 returns-2 c =
     let s = c .before .before .before .before .before in
     owner-past (c .before .before .if1 .left) (s .pre .1 .1) (c .before .lower .ensures) (c .if2 .taken)
-
-mul-p : tie.Need-mul-p
-mul-p c = search needs
-
-shared-slice-read-p : tie.Need-shared-slice-read-p
-shared-slice-read-p c = search needs
-
-code-at-requires : tie.Need-code-at-requires
-code-at-requires c κs = search needs
 
 add-result : tie.Need-add-result
 add-result c =
@@ -54,11 +42,11 @@ owner-by-order-spec =
     tie.close
     (tie.spec
     returns
-    lower-requires
+    (λ c κs. search needs)
     returns-2
-    mul-p
-    shared-slice-read-p
-    code-at-requires
+    (λ c. search needs)
+    (λ c. search needs)
+    (λ c κs. search needs)
     add-result
     returns-3
     returns-4)

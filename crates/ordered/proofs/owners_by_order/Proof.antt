@@ -21,26 +21,11 @@ start l = l .before .before .before .before .before
 loop-holds : tie.Need-loop-holds Inv-loop μ-loop
 loop-holds c = (search needs, owned-start)
 
-mul-owner-by-order : tie.Need-mul-owner-by-order Inv-loop μ-loop
-mul-owner-by-order c = search needs
-
-shared-slice-read-owner-by-order : tie.Need-shared-slice-read-owner-by-order Inv-loop μ-loop
-shared-slice-read-owner-by-order c = search needs
-
-owner-by-order-requires : tie.Need-owner-by-order-requires Inv-loop μ-loop
-owner-by-order-requires c κs = search needs
-
 mul-own : tie.Need-mul-own Inv-loop μ-loop
 mul-own c = omega (arith, start (c .before .before .before) .good)
 
 slice-write-own : tie.Need-slice-write-own Inv-loop μ-loop
 slice-write-own c = omega arith
-
-add-i : tie.Need-add-i Inv-loop μ-loop
-add-i c = search needs
-
-loop-less : tie.Need-loop-less Inv-loop μ-loop
-loop-less c = search needs
 
 loop-again : tie.Need-loop-again Inv-loop μ-loop
 loop-again c = (search needs, owned-next (omega arith) (c .owner-by-order .ensures) (c .before .before .before .loop .inv .1))
@@ -58,13 +43,13 @@ owners-by-order-spec =
     Inv-loop
     μ-loop
     loop-holds
-    mul-owner-by-order
-    shared-slice-read-owner-by-order
-    owner-by-order-requires
+    (λ c. search needs)
+    (λ c. search needs)
+    (λ c κs. search needs)
     mul-own
     slice-write-own
-    add-i
-    loop-less
+    (λ c. search needs)
+    (λ c. search needs)
     loop-again
     same-length
     returns)

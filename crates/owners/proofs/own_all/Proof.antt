@@ -16,22 +16,10 @@ start d = d .before .before .before .before .before .before .before .before
 abbrev built : tie.After-slice-known3 → tie.After-build
 built t = t .before .before .before .before
 
-slice-aggregate-build : tie.Need-slice-aggregate-build
-slice-aggregate-build c = search needs
-
-slice-aggregate-build-2 : tie.Need-slice-aggregate-build-2
-slice-aggregate-build-2 c = search needs
-
 build-requires : tie.Need-build-requires
 build-requires c κs =
     let s = c .before .before .before .before .before .before .before .pre in
     (s .0, (s .1 .0, table-start (length-replicate {A = ℕ} 32768 0) (omega (arith, length-replicate {A = ℕ} 16384 0)) (zero-at 32768)))
-
-slice-aggregate-owners-by-table : tie.Need-slice-aggregate-owners-by-table
-slice-aggregate-owners-by-table c = search needs
-
-slice-aggregate-owners-by-table-2 : tie.Need-slice-aggregate-owners-by-table-2
-slice-aggregate-owners-by-table-2 c = search needs
 
 owners-by-table-requires : tie.Need-owners-by-table-requires
 owners-by-table-requires c κs =
@@ -40,26 +28,11 @@ owners-by-table-requires c κs =
     let s = start d .pre in
     (s .0, (s .1 .1, d .build .ensures .0 (t .if1 .taken)))
 
-same-length : tie.Need-same-length
-same-length c = search needs
-
-same-length-2 : tie.Need-same-length-2
-same-length-2 c = search needs
-
 returns : tie.Need-returns
 returns c =
     let looked = c .before .before in
     let t = looked .before .before .before .before in
     (built (t .before) .build .ensures .1 .0 (t .if1 .taken), looked .owners-by-table .ensures)
-
-own-by-order-requires : tie.Need-own-by-order-requires
-own-by-order-requires c κs = search needs
-
-same-length-3 : tie.Need-same-length-3
-same-length-3 c = search needs
-
-same-length-4 : tie.Need-same-length-4
-same-length-4 c = search needs
 
 returns-2 : tie.Need-returns-2
 returns-2 c =
@@ -71,16 +44,16 @@ pub own-all-spec : {M : Type 1} → statement M
 own-all-spec =
     tie.close
     (tie.spec
-    slice-aggregate-build
-    slice-aggregate-build-2
+    (λ c. search needs)
+    (λ c. search needs)
     build-requires
-    slice-aggregate-owners-by-table
-    slice-aggregate-owners-by-table-2
+    (λ c. search needs)
+    (λ c. search needs)
     owners-by-table-requires
-    same-length
-    same-length-2
+    (λ c. search needs)
+    (λ c. search needs)
     returns
-    own-by-order-requires
-    same-length-3
-    same-length-4
+    (λ c κs. search needs)
+    (λ c. search needs)
+    (λ c. search needs)
     returns-2)

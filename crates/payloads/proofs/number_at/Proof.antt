@@ -19,12 +19,6 @@ loop-holds c = gathering-start _ _ _
 mul-x : tie.Need-mul-x Inv-loop μ-loop
 mul-x c = omega (arith, gathering-fits _ _ _ _ _ 0 (c .before .before .pre .1) (c .loop-test .taken) (omega arith) (c .before .loop .inv))
 
-add-x : tie.Need-add-x Inv-loop μ-loop
-add-x c = search needs
-
-shared-slice-read-x : tie.Need-shared-slice-read-x Inv-loop μ-loop
-shared-slice-read-x c = search needs
-
 cast-x : tie.Need-cast-x Inv-loop μ-loop
 cast-x c = let l = c .before .before in omega (arith, c .shared-slice-known .given (l .before .args .at + l .loop .i))
 
@@ -34,12 +28,6 @@ add-x-2 c =
     let b : getD (l .before .args .bytes .now) (l .before .args .at + l .loop .i) 0 < 256 =
     omega (arith, c .shared-slice-known .given (l .before .args .at + l .loop .i)) in
     omega (arith, gathering-fits _ _ _ _ _ _ (l .before .pre .1) (c .before .loop-test .taken) b (l .loop .inv))
-
-add-i : tie.Need-add-i Inv-loop μ-loop
-add-i c = search needs
-
-loop-less : tie.Need-loop-less Inv-loop μ-loop
-loop-less c = search needs
 
 loop-again : tie.Need-loop-again Inv-loop μ-loop
 loop-again c =
@@ -59,11 +47,11 @@ number-at-spec =
     μ-loop
     loop-holds
     mul-x
-    add-x
-    shared-slice-read-x
+    (λ c. search needs)
+    (λ c. search needs)
     cast-x
     add-x-2
-    add-i
-    loop-less
+    (λ c. search needs)
+    (λ c. search needs)
     loop-again
     returns)

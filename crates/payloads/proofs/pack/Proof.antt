@@ -16,31 +16,10 @@ abbrev μ-loop : tie.MeasureT-loop
 loop-holds : tie.Need-loop-holds Inv-loop μ-loop
 loop-holds c = packing-start _ _
 
-shared-slice-read-join : tie.Need-shared-slice-read-join Inv-loop μ-loop
-shared-slice-read-join c = search needs
-
-add-code-at : tie.Need-add-code-at Inv-loop μ-loop
-add-code-at c = search needs
-
-code-at-requires : tie.Need-code-at-requires Inv-loop μ-loop
-code-at-requires c κs = search needs
-
 join-requires : tie.Need-join-requires Inv-loop μ-loop
 join-requires c κs =
     let s = c .before .before .before .before .before .before in
     (code-small _ _ (s .pre .0), omega (arith, c .code-at .ensures, code-small (s .args .codes .now) (c .before .before .before .loop .i + 1) (s .pre .0)))
-
-slice-write-payload : tie.Need-slice-write-payload Inv-loop μ-loop
-slice-write-payload c = search needs
-
-add-i : tie.Need-add-i Inv-loop μ-loop
-add-i c = search needs
-
-add-n : tie.Need-add-n Inv-loop μ-loop
-add-n c = search needs
-
-loop-less : tie.Need-loop-less Inv-loop μ-loop
-loop-less c = search needs
 
 loop-again : tie.Need-loop-again Inv-loop μ-loop
 loop-again c =
@@ -64,14 +43,14 @@ pack-spec =
     Inv-loop
     μ-loop
     loop-holds
-    shared-slice-read-join
-    add-code-at
-    code-at-requires
+    (λ c. search needs)
+    (λ c. search needs)
+    (λ c κs. search needs)
     join-requires
-    slice-write-payload
-    add-i
-    add-n
-    loop-less
+    (λ c. search needs)
+    (λ c. search needs)
+    (λ c. search needs)
+    (λ c. search needs)
     loop-again
     same-length
     returns)

@@ -13,26 +13,8 @@ abbrev μ-loop : tie.MeasureT-loop
 loop-holds : tie.Need-loop-holds Inv-loop μ-loop
 loop-holds c = filling-start _ _ _ _
 
-sub-left : tie.Need-sub-left Inv-loop μ-loop
-sub-left c = search needs
-
-low-byte-requires : tie.Need-low-byte-requires Inv-loop μ-loop
-low-byte-requires c κs = search needs
-
-add-payload : tie.Need-add-payload Inv-loop μ-loop
-add-payload c = search needs
-
-slice-write-payload : tie.Need-slice-write-payload Inv-loop μ-loop
-slice-write-payload c = search needs
-
-loop-less : tie.Need-loop-less Inv-loop μ-loop
-loop-less c = search needs
-
 loop-again : tie.Need-loop-again Inv-loop μ-loop
 loop-again c = filling-next _ _ _ _ _ _ _ _ (c .before .loop-test .taken) (c .low-byte .ensures) (c .before .before .loop .inv)
-
-same-length : tie.Need-same-length Inv-loop μ-loop
-same-length c = search needs
 
 returns : tie.Need-returns Inv-loop μ-loop
 returns c = filling-end _ _ _ _ _ _ _ (c .loop-test .left) (c .before .loop .inv)
@@ -44,11 +26,11 @@ put-number-spec =
     Inv-loop
     μ-loop
     loop-holds
-    sub-left
-    low-byte-requires
-    add-payload
-    slice-write-payload
-    loop-less
+    (λ c. search needs)
+    (λ c κs. search needs)
+    (λ c. search needs)
+    (λ c. search needs)
+    (λ c. search needs)
     loop-again
-    same-length
+    (λ c. search needs)
     returns)

@@ -4,29 +4,17 @@ use borrow.Author.Needs.{needs}
 use Rattle.payloads.proofs.read_kind.Statement.{statement}
 use Rattle.payloads.proofs.read_kind.Tie as tie
 
-read-line-requires : tie.Need-read-line-requires
-read-line-requires c κs = search needs
-
-same-length : tie.Need-same-length
-same-length c = search needs
-
 returns : tie.Need-returns
 returns c =
     let r = c .before .before .before .before in
     let a = r .before .before .before .before .args in
     (line-wrong (a .kind) (a .size) _ _ (r .read-line .ensures .0) (c .if1 .taken), r .read-line .ensures .1)
 
-same-length-2 : tie.Need-same-length-2
-same-length-2 c = search needs
-
 returns-2 : tie.Need-returns-2
 returns-2 c =
     let r = c .before .before .before .before .before .before in
     let a = r .before .before .before .before .args in
     (kind-wrong (a .kind) (a .size) _ _ (r .read-line .ensures .0) (c .before .before .if1 .left) (c .if2 .taken), r .read-line .ensures .1)
-
-same-length-3 : tie.Need-same-length-3
-same-length-3 c = search needs
 
 returns-3 : tie.Need-returns-3
 returns-3 c =
@@ -37,9 +25,6 @@ returns-3 c =
           (c .if3 .taken),
       r .read-line .ensures .1,
     )
-
-same-length-4 : tie.Need-same-length-4
-same-length-4 c = search needs
 
 returns-4 : tie.Need-returns-4
 returns-4 c =
@@ -55,12 +40,12 @@ pub read-kind-spec : {M : Type 1} → statement M
 read-kind-spec =
     tie.close
     (tie.spec
-    read-line-requires
-    same-length
+    (λ c κs. search needs)
+    (λ c. search needs)
     returns
-    same-length-2
+    (λ c. search needs)
     returns-2
-    same-length-3
+    (λ c. search needs)
     returns-3
-    same-length-4
+    (λ c. search needs)
     returns-4)

@@ -8,21 +8,6 @@ use borrow.Author.Needs.{needs}
 use Rattle.pieces.proofs.code_count.Statement.{statement}
 use Rattle.pieces.proofs.code_count.Tie as tie
 
-sub-split : tie.Need-sub-split
-sub-split c = search needs
-
-shared-slice-read-split : tie.Need-shared-slice-read-split
-shared-slice-read-split c = search needs
-
-split-requires : tie.Need-split-requires
-split-requires c κs = search needs
-
-mul-result : tie.Need-mul-result
-mul-result c = search needs
-
-sub-result : tie.Need-sub-result
-sub-result c = search needs
-
 returns : tie.Need-returns
 returns c =
     let h = c .before .before in
@@ -30,9 +15,6 @@ returns c =
     let xs = s .args .payload .now in
     let n : length xs ≡ suc (length xs - 1) = omega (arith, s .pre .0) in
     omega (arith, s .pre .0, count-odd xs (length xs - 1) n (sym (h .split .ensures .1) ∙ c .if1 .taken))
-
-mul-result-2 : tie.Need-mul-result-2
-mul-result-2 c = search needs
 
 returns-2 : tie.Need-returns-2
 returns-2 c =
@@ -46,11 +28,11 @@ pub code-count-spec : {M : Type 1} → statement M
 code-count-spec =
     tie.close
     (tie.spec
-    sub-split
-    shared-slice-read-split
-    split-requires
-    mul-result
-    sub-result
+    (λ c. search needs)
+    (λ c. search needs)
+    (λ c κs. search needs)
+    (λ c. search needs)
+    (λ c. search needs)
     returns
-    mul-result-2
+    (λ c. search needs)
     returns-2)

@@ -23,15 +23,6 @@ returns-2 c = sym (piece-long _ (c .before .if1 .left) (c .if2 .taken))
 loop-holds : tie.Need-loop-holds Inv-loop μ-loop
 loop-holds c = halving-start _ (c .before .if1 .left) (c .if2 .left)
 
-shared-slice-read-split : tie.Need-shared-slice-read-split Inv-loop μ-loop
-shared-slice-read-split c = search needs
-
-split-requires : tie.Need-split-requires Inv-loop μ-loop
-split-requires c κs = search needs
-
-add-i : tie.Need-add-i Inv-loop μ-loop
-add-i c = search needs
-
 returns-3 : tie.Need-returns-3 Inv-loop μ-loop
 returns-3 c =
     let h = c .before .before in
@@ -50,9 +41,6 @@ returns-4 c =
     let small : getD xs (l .loop .i) 0 < 256 = omega (arith, h .before .shared-slice-known2 .given (l .loop .i)) in
     sym (low-zero xs (l .loop .i) _ _ (t .loop-test .taken) small (h .split .ensures .0) (h .split .ensures .1) (l .loop .inv)
     (c .before .before .if3 .left) (c .if4 .taken))
-
-loop-less : tie.Need-loop-less Inv-loop μ-loop
-loop-less c = search needs
 
 loop-again : tie.Need-loop-again Inv-loop μ-loop
 loop-again c =
@@ -76,11 +64,11 @@ is-piece-spec =
     returns
     returns-2
     loop-holds
-    shared-slice-read-split
-    split-requires
-    add-i
+    (λ c. search needs)
+    (λ c κs. search needs)
+    (λ c. search needs)
     returns-3
     returns-4
-    loop-less
+    (λ c. search needs)
     loop-again
     returns-5)

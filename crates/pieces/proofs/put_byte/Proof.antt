@@ -6,20 +6,8 @@ use borrow.Author.Needs.{needs}
 use Rattle.pieces.proofs.put_byte.Statement.{statement}
 use Rattle.pieces.proofs.put_byte.Tie as tie
 
-split-requires : tie.Need-split-requires
-split-requires c κs = search needs
-
-letter-requires : tie.Need-letter-requires
-letter-requires c κs = search needs
-
 slice-write-letters : tie.Need-slice-write-letters
 slice-write-letters c = let s = c .before .before .before in omega (arith, s .pre, codes-some (s .args .byte))
-
-add-result : tie.Need-add-result
-add-result c = search needs
-
-same-length : tie.Need-same-length
-same-length c = search needs
 
 returns : tie.Need-returns
 returns c =
@@ -28,24 +16,12 @@ returns c =
     let a = h .before .before .args in
     one-letter (a .letters .now) (a .at) (a .byte) _ _ _ (h .split .ensures .0) (h .split .ensures .1) (l .letter .ensures) (c .if1 .taken)
 
-letter-requires-2 : tie.Need-letter-requires-2
-letter-requires-2 c κs = search needs
-
-add-letters : tie.Need-add-letters
-add-letters c = search needs
-
 slice-write-letters-2 : tie.Need-slice-write-letters-2
 slice-write-letters-2 c =
     let e = c .before in
     let h = e .before .before .before in
     let s = h .before .before in
     simp length-set (omega (arith, s .pre, codes-two (s .args .byte) _ (h .split .ensures .1) (e .if1 .left)))
-
-add-result-2 : tie.Need-add-result-2
-add-result-2 c = search needs
-
-same-length-2 : tie.Need-same-length-2
-same-length-2 c = search needs
 
 returns-2 : tie.Need-returns-2
 returns-2 c =
@@ -60,15 +36,15 @@ pub put-byte-spec : {M : Type 1} → statement M
 put-byte-spec =
     tie.close
     (tie.spec
-    split-requires
-    letter-requires
+    (λ c κs. search needs)
+    (λ c κs. search needs)
     slice-write-letters
-    add-result
-    same-length
+    (λ c. search needs)
+    (λ c. search needs)
     returns
-    letter-requires-2
-    add-letters
+    (λ c κs. search needs)
+    (λ c. search needs)
     slice-write-letters-2
-    add-result-2
-    same-length-2
+    (λ c. search needs)
+    (λ c. search needs)
     returns-2)

@@ -11,9 +11,6 @@ use Rattle.pieces.proofs.take_piece.Tie as tie
 piece : (c : tie.Then1) → IsPiece (c .before .before .before .before .args .payload .now)
 piece c = piece-parts _ (sym (c .before .is-piece .ensures) ∙ c .if1 .taken)
 
-is-piece-requires : tie.Need-is-piece-requires
-is-piece-requires c κs = search needs
-
 code-count-requires : tie.Need-code-count-requires
 code-count-requires c κs = let p = piece c in (p .least, p .most)
 
@@ -29,12 +26,6 @@ put-letters-requires c κs =
     let n = u .before in
     let t = n .before in
     (piece t .codes, omega (arith, u .if2 .taken, n .code-count .ensures, t .before .before .before .before .pre .1))
-
-add-t11 : tie.Need-add-t11
-add-t11 c = search needs
-
-same-length : tie.Need-same-length
-same-length c = search needs
 
 returns : tie.Need-returns
 returns c =
@@ -62,12 +53,12 @@ pub take-piece-spec : {M : Type 1} → statement M
 take-piece-spec =
     tie.close
     (tie.spec
-    is-piece-requires
+    (λ c κs. search needs)
     code-count-requires
     add-if2
     put-letters-requires
-    add-t11
-    same-length
+    (λ c. search needs)
+    (λ c. search needs)
     returns
     returns-2
     returns-3)

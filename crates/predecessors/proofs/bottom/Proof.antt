@@ -8,11 +8,8 @@ use Rattle.predecessors.proofs.bottom.Tie as tie
 returns : tie.Need-returns
 returns c = cond-yes (c .before .args .low) (c .before .args .column) _ _ (omega arith)
 
-sub-result : tie.Need-sub-result
-sub-result c = search needs
-
 returns-2 : tie.Need-returns-2
 returns-2 c = cond-no (c .before .args .low) (c .before .args .column) _ _ (omega arith)
 
 pub bottom-spec : {M : Type 1} → statement M
-bottom-spec = tie.close (tie.spec returns sub-result returns-2)
+bottom-spec = tie.close (tie.spec returns (λ c. search needs) returns-2)

@@ -20,12 +20,6 @@ slot-high ring g f h =
     let o = f .begins in
     sym (mod-eq-sub-mod h ∙ mod-eq-of-lt (omega arith)) ∙ mod-add-mod g (ring .size) (ring .origin)
 
-sub-at : tie.Need-sub-at
-sub-at c = search needs
-
-rem-at : tie.Need-rem-at
-rem-at c = search needs
-
 add-at : tie.Need-add-at
 add-at c = let s = c .before in let l = mod-lt (s .args .n - 1) (s .pre .0 .some-room) in omega (arith, s .pre .0 .begins, s .pre .0 .small)
 
@@ -39,4 +33,4 @@ returns-2 c =
     (slot-high (s .args .ring) (s .args .n - 1) (s .pre .0) (c .if1 .left), omega (arith, s .pre .0 .begins))
 
 pub slot-spec : {M : Type 1} → statement M
-slot-spec = tie.close (tie.spec sub-at rem-at add-at returns returns-2)
+slot-spec = tie.close (tie.spec (λ c. search needs) (λ c. search needs) add-at returns returns-2)

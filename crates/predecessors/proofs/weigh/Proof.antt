@@ -1,7 +1,7 @@
 -- `predecessors::weigh` meets its contract: both records are read from their slots, and the tie rule decides. Assumes nothing.
 use mathlib.Core.Path.{sym, ap, _∙_}
 use native.Mathlib.Omega.{arith}
-use Rattle.rooms.specs.Layout.{recordIn}
+use Rattle.records.specs.Layout.{recordIn}
 use Rattle.predecessors.proofs.Steps.{weigh-first, weigh-new, weigh-old}
 use borrow.Author.Needs.{needs}
 use Rattle.predecessors.proofs.weigh.Statement.{statement}
@@ -9,21 +9,6 @@ use Rattle.predecessors.proofs.weigh.Tie as tie
 
 returns : tie.Need-returns
 returns c = weigh-first _ _ _ _ (omega arith) (omega arith)
-
-slot-requires : tie.Need-slot-requires
-slot-requires c κs = search needs
-
-record-at-requires : tie.Need-record-at-requires
-record-at-requires c κs = search needs
-
-slot-requires-2 : tie.Need-slot-requires-2
-slot-requires-2 c κs = search needs
-
-record-at-requires-2 : tie.Need-record-at-requires-2
-record-at-requires-2 c κs = search needs
-
-preferred-requires : tie.Need-preferred-requires
-preferred-requires c κs = search needs
 
 returns-2 : tie.Need-returns-2
 returns-2 c =
@@ -49,10 +34,10 @@ weigh-spec =
     tie.close
     (tie.spec
     returns
-    slot-requires
-    record-at-requires
-    slot-requires-2
-    record-at-requires-2
-    preferred-requires
+    (λ c κs. search needs)
+    (λ c κs. search needs)
+    (λ c κs. search needs)
+    (λ c κs. search needs)
+    (λ c κs. search needs)
     returns-2
     returns-3)

@@ -4,12 +4,9 @@ use borrow.Author.Needs.{needs}
 use Rattle.readers.proofs.read_entry.Statement.{statement}
 use Rattle.readers.proofs.read_entry.Tie as tie
 
-read-entry-of-requires : tie.Need-read-entry-of-requires
-read-entry-of-requires c κs = search needs
-
 returns : tie.Need-returns
 unfolding readEntry
 returns c = c .read-entry-of .ensures
 
 pub read-entry-spec : {M : Type 1} → statement M
-read-entry-spec = tie.close (tie.spec read-entry-of-requires returns)
+read-entry-spec = tie.close (tie.spec (λ c κs. search needs) returns)

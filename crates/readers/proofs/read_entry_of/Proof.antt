@@ -8,45 +8,9 @@ use borrow.Author.Needs.{needs}
 use Rattle.readers.proofs.read_entry_of.Statement.{statement}
 use Rattle.readers.proofs.read_entry_of.Tie as tie
 
-slice-aggregate-read-kind : tie.Need-slice-aggregate-read-kind
-slice-aggregate-read-kind c = search needs
-
-read-kind-requires : tie.Need-read-kind-requires
-read-kind-requires c κs = search needs
-
 returns : tie.Need-returns
 unfolding noEntry
 returns c = entry-refused _ _ (c .before .before .read-kind .ensures .0) (c .if1 .taken)
-
-slice-aggregate-number-at : tie.Need-slice-aggregate-number-at
-slice-aggregate-number-at c = search needs
-
-number-at-requires : tie.Need-number-at-requires
-number-at-requires c κs = search needs
-
-slice-aggregate-number-at-2 : tie.Need-slice-aggregate-number-at-2
-slice-aggregate-number-at-2 c = search needs
-
-number-at-requires-2 : tie.Need-number-at-requires-2
-number-at-requires-2 c κs = search needs
-
-slice-aggregate-number-at-3 : tie.Need-slice-aggregate-number-at-3
-slice-aggregate-number-at-3 c = search needs
-
-number-at-requires-3 : tie.Need-number-at-requires-3
-number-at-requires-3 c κs = search needs
-
-slice-aggregate-number-at-4 : tie.Need-slice-aggregate-number-at-4
-slice-aggregate-number-at-4 c = search needs
-
-number-at-requires-4 : tie.Need-number-at-requires-4
-number-at-requires-4 c κs = search needs
-
-slice-aggregate-number-at-5 : tie.Need-slice-aggregate-number-at-5
-slice-aggregate-number-at-5 c = search needs
-
-number-at-requires-5 : tie.Need-number-at-requires-5
-number-at-requires-5 c κs = search needs
 
 returns-2 : tie.Need-returns-2
 returns-2 c =
@@ -69,17 +33,17 @@ pub read-entry-of-spec : {M : Type 1} → statement M
 read-entry-of-spec =
     tie.close
     (tie.spec
-    slice-aggregate-read-kind
-    read-kind-requires
+    (λ c. search needs)
+    (λ c κs. search needs)
     returns
-    slice-aggregate-number-at
-    number-at-requires
-    slice-aggregate-number-at-2
-    number-at-requires-2
-    slice-aggregate-number-at-3
-    number-at-requires-3
-    slice-aggregate-number-at-4
-    number-at-requires-4
-    slice-aggregate-number-at-5
-    number-at-requires-5
+    (λ c. search needs)
+    (λ c κs. search needs)
+    (λ c. search needs)
+    (λ c κs. search needs)
+    (λ c. search needs)
+    (λ c κs. search needs)
+    (λ c. search needs)
+    (λ c κs. search needs)
+    (λ c. search needs)
+    (λ c κs. search needs)
     returns-2)

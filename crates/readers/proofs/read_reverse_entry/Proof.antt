@@ -4,12 +4,9 @@ use borrow.Author.Needs.{needs}
 use Rattle.readers.proofs.read_reverse_entry.Statement.{statement}
 use Rattle.readers.proofs.read_reverse_entry.Tie as tie
 
-read-entry-of-requires : tie.Need-read-entry-of-requires
-read-entry-of-requires c κs = search needs
-
 returns : tie.Need-returns
 unfolding readReverse
 returns c = c .read-entry-of .ensures
 
 pub read-reverse-entry-spec : {M : Type 1} → statement M
-read-reverse-entry-spec = tie.close (tie.spec read-entry-of-requires returns)
+read-reverse-entry-spec = tie.close (tie.spec (λ c κs. search needs) returns)

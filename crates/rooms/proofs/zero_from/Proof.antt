@@ -32,15 +32,6 @@ abbrev μ-loop : tie.MeasureT-loop
 loop-holds : tie.Need-loop-holds Inv-loop μ-loop
 loop-holds c = (omega arith, omega arith, rw sub-self (sym (append-nil _)), refl)
 
-mul-room : tie.Need-mul-room Inv-loop μ-loop
-mul-room c = search needs
-
-slice-write-room : tie.Need-slice-write-room Inv-loop μ-loop
-slice-write-room c = search needs
-
-add-i : tie.Need-add-i Inv-loop μ-loop
-add-i c = search needs
-
 loop-less : tie.Need-loop-less Inv-loop μ-loop
 loop-less c = simp length-set (omega arith)
 
@@ -54,14 +45,12 @@ loop-again c =
       simp length-set (v .3),
     )
 
-same-length : tie.Need-same-length Inv-loop μ-loop
-same-length c = search needs
-
 returns : tie.Need-returns Inv-loop μ-loop
 returns c =
     let v = c .before .loop .inv in
     let a = c .before .before .args in
-    zero-end (take (a .from) (a .room .now)) (c .before .loop .room) (a .from) (c .before .loop .i) (length (a .room .now)) (v .1) (c .loop-test .left) (v .3) (v .2)
+    zero-end (take (a .from) (a .room .now)) (c .before .loop .room) (a .from) (c .before .loop .i) (length (a .room .now)) (v .1)
+    (c .loop-test .left) (v .3) (v .2)
 
 pub zero-from-spec : {M : Type 1} → statement M
 zero-from-spec =
@@ -70,10 +59,10 @@ zero-from-spec =
     Inv-loop
     μ-loop
     loop-holds
-    mul-room
-    slice-write-room
-    add-i
+    (λ c. search needs)
+    (λ c. search needs)
+    (λ c. search needs)
     loop-less
     loop-again
-    same-length
+    (λ c. search needs)
     returns)

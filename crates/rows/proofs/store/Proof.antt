@@ -1,23 +1,11 @@
 -- `rows::store` meets its contract: the new record is that of its predecessor plus 1, read from its slot. Assumes nothing.
 use mathlib.Core.Path.{ap, _∙_}
 use Rattle.rules.specs.Matches.{cell}
-use Rattle.rooms.specs.Layout.{recordIn}
+use Rattle.records.specs.Layout.{recordIn}
 use Rattle.rows.proofs.Adding.{store-none, store-some}
 use borrow.Author.Needs.{needs}
 use Rattle.rows.proofs.store.Statement.{statement}
 use Rattle.rows.proofs.store.Tie as tie
-
-add-slot : tie.Need-add-slot
-add-slot c = search needs
-
-slot-requires : tie.Need-slot-requires
-slot-requires c κs = search needs
-
-put-record-requires : tie.Need-put-record-requires
-put-record-requires c κs = search needs
-
-same-length : tie.Need-same-length
-same-length c = search needs
 
 returns : tie.Need-returns
 returns c =
@@ -25,22 +13,8 @@ returns c =
     let t = d .before .before in
     let s = t .before in
     let a = s .before .before .args in
-    store-none (a .room .now) (d .put-record .last .0) (a .ring) (a .head) (a .p) (cell (a .i) (a .j)) (s .slot .result) (s .slot .ensures .0) (t .if1 .taken) (d .put-record .ensures)
-
-slot-requires-2 : tie.Need-slot-requires-2
-slot-requires-2 c κs = search needs
-
-record-at-requires : tie.Need-record-at-requires
-record-at-requires c κs = search needs
-
-wrapping-add-u32-requires : tie.Need-wrapping-add-u32-requires
-wrapping-add-u32-requires c κs = search needs
-
-put-record-requires-2 : tie.Need-put-record-requires-2
-put-record-requires-2 c κs = search needs
-
-same-length-2 : tie.Need-same-length-2
-same-length-2 c = search needs
+    store-none (a .room .now) (d .put-record .last .0) (a .ring) (a .head) (a .p) (cell (a .i) (a .j)) (s .slot .result) (s .slot .ensures .0) (t .if1 .taken)
+    (d .put-record .ensures)
 
 returns-2 : tie.Need-returns-2
 returns-2 c =
@@ -51,21 +25,23 @@ returns-2 c =
     let e = o .before .before in
     let s = e .before in
     let a = s .before .before .args in
-    store-some (a .room .now) (d .put-record2 .last .0) (a .ring) (a .head) (a .p) (cell (a .i) (a .j)) (s .slot .result) (s .slot .ensures .0) (x .record-at .result)
-    (w .wrapping-add-u32 .result) (e .if1 .left) (x .record-at .ensures ∙ ap (recordIn (a .room .now)) (o .slot2 .ensures .0)) (w .wrapping-add-u32 .ensures) (d .put-record2 .ensures)
+    store-some (a .room .now) (d .put-record2 .last .0) (a .ring) (a .head) (a .p) (cell (a .i) (a .j)) (s .slot .result) (s .slot .ensures .0)
+    (x .record-at .result)
+    (w .wrapping-add-u32 .result) (e .if1 .left) (x .record-at .ensures ∙ ap (recordIn (a .room .now)) (o .slot2 .ensures .0)) (w .wrapping-add-u32 .ensures)
+    (d .put-record2 .ensures)
 
 pub store-spec : {M : Type 1} → statement M
 store-spec =
     tie.close
     (tie.spec
-    add-slot
-    slot-requires
-    put-record-requires
-    same-length
+    (λ c. search needs)
+    (λ c κs. search needs)
+    (λ c κs. search needs)
+    (λ c. search needs)
     returns
-    slot-requires-2
-    record-at-requires
-    wrapping-add-u32-requires
-    put-record-requires-2
-    same-length-2
+    (λ c κs. search needs)
+    (λ c κs. search needs)
+    (λ c κs. search needs)
+    (λ c κs. search needs)
+    (λ c. search needs)
     returns-2)

@@ -8,10 +8,15 @@ use Rattle.rows.proofs.store_row.Statement.{statement}
 use Rattle.rows.proofs.store_row.Tie as tie
 
 abbrev Inv-loop : tie.InvT-loop
-Inv-loop nexts start room₀ latest₀ ring tail head from b i h₀ near₀ column₀ j₀ room latest h near column j = RowInv b i room₀ latest₀ nexts ring tail head from start room latest h near column j
+Inv-loop nexts start room₀ latest₀ ring tail head from b i h₀ near₀ column₀ j₀ room latest h near column j =
+    RowInv b i room₀ latest₀ nexts ring tail head from start room latest h near column j
 
 abbrev μ-loop : tie.MeasureT-loop
 μ-loop nexts start room₀ latest₀ ring tail head from b i h₀ near₀ column₀ j₀ room latest h near column j = toCome (length latest₀) j
+
+-- the turn of the loop, from where its match is added
+abbrev turning : tie.After-add Inv-loop μ-loop → tie.In-loop Inv-loop μ-loop
+turning d = d .before .before .before
 
 loop-holds : tie.Need-loop-holds Inv-loop μ-loop
 loop-holds c = let s = c .before .before .before in row-start (s .pre)
@@ -47,31 +52,29 @@ mul-wide c =
 
 shared-slice-read-wide : tie.Need-shared-slice-read-wide Inv-loop μ-loop
 shared-slice-read-wide c =
-    let n = c .before .before .before .before .before .before .before .before in
+    let n = turning (c .before .before .before .before .before) in
     let l = n .before in
     let s = l .before .before .before .before in
     let v = l .loop in
     let z = n .loop-test .taken in omega (arith, v .inv .in-j, s .pre .known)
 
-wide-requires : tie.Need-wide-requires Inv-loop μ-loop
-wide-requires c κs = search needs
-
 loop-less : tie.Need-loop-less Inv-loop μ-loop
 loop-less c =
-    let n = c .before .before .before .before .before .before .before .before .before in
+    let n = turning (c .before .before .before .before .before .before) in
     let l = n .before in
     let s = l .before .before .before .before in
     let a = s .args in
     let v = l .loop in
-    rw (c .wide .ensures .0) (come-less (length (a .latest .now)) (v .j) _ (n .loop-test .taken) (v .inv .in-j) (s .pre .inside (v .j - 1)) (λ h. let u = s .pre .rising (v .j - 1) h in omega arith))
+    rw (c .wide .ensures .0) (come-less (length (a .latest .now)) (v .j) _ (n .loop-test .taken) (v .inv .in-j) (s .pre .inside (v .j - 1))
+    (λ h. let u = s .pre .rising (v .j - 1) h in omega arith))
 
 loop-again : tie.Need-loop-again Inv-loop μ-loop
 loop-again c =
-    let n = c .before .before .before .before .before .before .before .before .before in
+    let d = c .before .before .before .before .before .before in
+    let n = turning d in
     let l = n .before in
     let s = l .before .before .before .before in
     let v = l .loop in
-    let d = c .before .before .before .before .before .before in
     rw (c .wide .ensures .0)
     (row-next (s .pre) (v .inv) (n .loop-test .taken) (d .add .kept .0) (d .add .kept .1 .0) (d .add .ensures))
 
@@ -100,7 +103,7 @@ store-row-spec =
     sub-p
     mul-wide
     shared-slice-read-wide
-    wide-requires
+    (λ c κs. search needs)
     loop-less
     loop-again
     same-length

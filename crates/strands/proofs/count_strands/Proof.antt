@@ -5,21 +5,12 @@ use borrow.Author.Needs.{needs}
 use Rattle.strands.proofs.count_strands.Statement.{statement}
 use Rattle.strands.proofs.count_strands.Tie as tie
 
-count-matches-requires : tie.Need-count-matches-requires
-count-matches-requires c κs = search needs
-
-count-matches-requires-2 : tie.Need-count-matches-requires-2
-count-matches-requires-2 c κs = search needs
-
 add-matches : tie.Need-add-matches
 add-matches c =
     let r = c .before .before in
     let f = r .before in
     let s = f .before .before .before .before .before in
     omega (arith, sum-few (s .pre .0) (s .pre .1) (f .count-matches .ensures) (r .count-matches2 .ensures))
-
-larger-requires : tie.Need-larger-requires
-larger-requires c κs = search needs
 
 returns : tie.Need-returns
 returns c =
@@ -31,4 +22,4 @@ returns c =
 pub count-strands-spec : {M : Type 1} → statement M
 count-strands-spec =
     tie.close
-    (tie.spec count-matches-requires count-matches-requires-2 add-matches larger-requires returns)
+    (tie.spec (λ c κs. search needs) (λ c κs. search needs) add-matches (λ c κs. search needs) returns)

@@ -4,15 +4,6 @@ use borrow.Author.Needs.{needs}
 use Rattle.strands.proofs.link_strands.Statement.{statement}
 use Rattle.strands.proofs.link_strands.Tie as tie
 
-count-links-requires : tie.Need-count-links-requires
-count-links-requires c κs = search needs
-
-count-links-requires-2 : tie.Need-count-links-requires-2
-count-links-requires-2 c κs = search needs
-
-wrapping-add-u64-requires : tie.Need-wrapping-add-u64-requires
-wrapping-add-u64-requires c κs = search needs
-
 returns : tie.Need-returns
 returns c =
     let r = c .before in
@@ -23,4 +14,4 @@ returns c =
 pub link-strands-spec : {M : Type 1} → statement M
 link-strands-spec =
     tie.close
-    (tie.spec count-links-requires count-links-requires-2 wrapping-add-u64-requires returns)
+    (tie.spec (λ c κs. search needs) (λ c κs. search needs) (λ c κs. search needs) returns)

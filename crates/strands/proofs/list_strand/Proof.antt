@@ -4,6 +4,10 @@ use borrow.Author.Needs.{needs}
 use Rattle.strands.proofs.list_strand.Statement.{statement}
 use Rattle.strands.proofs.list_strand.Tie as tie
 
+-- the start, from where all is listed
+abbrev start : tie.After-list-all → tie.Start
+start d = d .before .before .before .before .before .before .before .before
+
 returns : tie.Need-returns
 returns c = lists-none (c .if1 .taken)
 
@@ -14,18 +18,11 @@ list-all-requires c κs =
     let a = s .args in
     sweep-safe (a .firsts .now) (a .nexts .now) (a .work .now) (a .c) (a .slots) (s .pre .0) (s .pre .1 .0) (s .pre .1 .1) (e .if1 .left)
 
-same-length : tie.Need-same-length
-same-length c = search needs
-
-same-length-2 : tie.Need-same-length-2
-same-length-2 c = search needs
-
 returns-2 : tie.Need-returns-2
 returns-2 c =
     let d = c .before .before .before .before in
-    let s = d .before .before .before .before .before .before .before .before in
-    lists-swept (s .pre .0) (d .list-all .ensures)
+    lists-swept (start d .pre .0) (d .list-all .ensures)
 
 pub list-strand-spec : {M : Type 1} → statement M
 list-strand-spec =
-    tie.close (tie.spec returns list-all-requires same-length same-length-2 returns-2)
+    tie.close (tie.spec returns list-all-requires (λ c. search needs) (λ c. search needs) returns-2)

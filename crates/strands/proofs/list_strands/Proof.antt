@@ -12,38 +12,11 @@ listed e = e .before .before .before .before .before .before
 abbrev start : tie.After-list-strand → tie.Start
 start m = m .before .before .before .before .before .before .before .before .before
 
-list-strand-requires : tie.Need-list-strand-requires
-list-strand-requires c κs = search needs
-
-entries-end-requires : tie.Need-entries-end-requires
-entries-end-requires c κs = search needs
-
-mul-list-turned : tie.Need-mul-list-turned
-mul-list-turned c = search needs
-
-sub-list-turned : tie.Need-sub-list-turned
-sub-list-turned c = search needs
-
-part-list-turned-start : tie.Need-part-list-turned-start
-part-list-turned-start c = search needs
-
-part-list-turned-end : tie.Need-part-list-turned-end
-part-list-turned-end c = search needs
-
 list-turned-requires : tie.Need-list-turned-requires
 list-turned-requires c κs =
     let m = listed (c .before .before) in
     let p = start m .pre .1 in
     (p .0, (omega (arith, p .1 .0, m .list-strand .kept .1 .1 .1 .1 .0), (p .1 .1 .0, p .1 .1 .1)))
-
-add-result : tie.Need-add-result
-add-result c = search needs
-
-same-length : tie.Need-same-length
-same-length c = search needs
-
-same-length-2 : tie.Need-same-length-2
-same-length-2 c = search needs
 
 returns : tie.Need-returns
 returns c =
@@ -55,14 +28,14 @@ pub list-strands-spec : {M : Type 1} → statement M
 list-strands-spec =
     tie.close
     (tie.spec
-    list-strand-requires
-    entries-end-requires
-    mul-list-turned
-    sub-list-turned
-    part-list-turned-start
-    part-list-turned-end
+    (λ c κs. search needs)
+    (λ c κs. search needs)
+    (λ c. search needs)
+    (λ c. search needs)
+    (λ c. search needs)
+    (λ c. search needs)
     list-turned-requires
-    add-result
-    same-length
-    same-length-2
+    (λ c. search needs)
+    (λ c. search needs)
+    (λ c. search needs)
     returns)

@@ -13,35 +13,18 @@ listed t = t .before .before .before .before .before .before .before
 abbrev start : tie.After-list-strand → tie.Start
 start m = m .before .before .before .before .before .before .before
 
-list-strand-requires : tie.Need-list-strand-requires
-list-strand-requires c κs = search needs
-
-entry-count-requires : tie.Need-entry-count-requires
-entry-count-requires c κs = search needs
-
 turn-entries-requires : tie.Need-turn-entries-requires
 unfolding listHolds
 turn-entries-requires c κs =
     let t = c .before in
     (omega (arith, t .before .entry-count .ensures, t .if1 .taken), start (listed t) .pre .1 .1 .1)
 
-same-length : tie.Need-same-length
-same-length c = search needs
-
-same-length-2 : tie.Need-same-length-2
-same-length-2 c = search needs
-
 returns : tie.Need-returns
 returns c =
     let y = c .before .before in
     let t = y .before .before in
-    lists-turned (start (listed t) .args .letters) (listed t .list-strand .ensures) (omega (arith, t .before .entry-count .ensures, t .if1 .taken)) (y .turn-entries .ensures)
-
-same-length-3 : tie.Need-same-length-3
-same-length-3 c = search needs
-
-same-length-4 : tie.Need-same-length-4
-same-length-4 c = search needs
+    lists-turned (start (listed t) .args .letters) (listed t .list-strand .ensures) (omega (arith, t .before .entry-count .ensures, t .if1 .taken))
+    (y .turn-entries .ensures)
 
 returns-2 : tie.Need-returns-2
 returns-2 c =
@@ -52,12 +35,12 @@ pub list-turned-spec : {M : Type 1} → statement M
 list-turned-spec =
     tie.close
     (tie.spec
-    list-strand-requires
-    entry-count-requires
+    (λ c κs. search needs)
+    (λ c κs. search needs)
     turn-entries-requires
-    same-length
-    same-length-2
+    (λ c. search needs)
+    (λ c. search needs)
     returns
-    same-length-3
-    same-length-4
+    (λ c. search needs)
+    (λ c. search needs)
     returns-2)

@@ -9,25 +9,13 @@ use Rattle.sweep.proofs.hold_run.Tie as tie
 abbrev start : tie.After-sweep → tie.Start
 start d = d .before .before .before .before .before .before .before
 
-slice-aggregate-sweep : tie.Need-slice-aggregate-sweep
-slice-aggregate-sweep c = search needs
-
-slice-aggregate-sweep-2 : tie.Need-slice-aggregate-sweep-2
-slice-aggregate-sweep-2 c = search needs
-
 sweep-requires : tie.Need-sweep-requires
 sweep-requires c κs = (c .before .before .before .before .before .before .pre, none-latest)
-
-sub-held : tie.Need-sub-held
-sub-held c = search needs
 
 zero-after-requires : tie.Need-zero-after-requires
 zero-after-requires c κs =
     let d = c .before .before .before .before .before .before in
     omega (arith, d .sweep .ensures .few, start d .pre .walks .few-rows)
-
-same-length : tie.Need-same-length
-same-length c = search needs
 
 returns : tie.Need-returns
 returns c =
@@ -39,10 +27,10 @@ pub hold-run-spec : {M : Type 1} → statement M
 hold-run-spec =
     tie.close
     (tie.spec
-    slice-aggregate-sweep
-    slice-aggregate-sweep-2
+    (λ c. search needs)
+    (λ c. search needs)
     sweep-requires
-    sub-held
+    (λ c. search needs)
     zero-after-requires
-    same-length
+    (λ c. search needs)
     returns)

@@ -21,18 +21,6 @@ returns : tie.Need-returns
 unfolding leavesAt
 returns c = rw (le-ltb (c .before .args .b) (c .before .args .p) (c .if1 .taken))
 
-sub-result : tie.Need-sub-result
-sub-result c = search needs
-
-sub-result-2 : tie.Need-sub-result-2
-sub-result-2 c = search needs
-
-mul-result : tie.Need-mul-result
-mul-result c = search needs
-
-shared-slice-read-result : tie.Need-shared-slice-read-result
-shared-slice-read-result c = search needs
-
 returns-2 : tie.Need-returns-2
 returns-2 c =
     let a = c .before .before .args in
@@ -41,4 +29,4 @@ returns-2 c =
 pub leaves-spec : {M : Type 1} → statement M
 leaves-spec =
     tie.close
-    (tie.spec returns sub-result sub-result-2 mul-result shared-slice-read-result returns-2)
+    (tie.spec returns (λ c. search needs) (λ c. search needs) (λ c. search needs) (λ c. search needs) returns-2)

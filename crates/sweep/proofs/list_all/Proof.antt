@@ -15,14 +15,8 @@ start d = d .before .before .before .before .before .before .before .before
 abbrev swept : tie.After-wide → tie.After-sweep
 swept w = w .before .before .before .before .before .before
 
-slice-aggregate-sweep : tie.Need-slice-aggregate-sweep
-slice-aggregate-sweep c = search needs
-
 sweep-requires : tie.Need-sweep-requires
 sweep-requires c κs = (c .before .before .before .before .before .before .before .pre, none-latest)
-
-wide-requires : tie.Need-wide-requires
-wide-requires c κs = search needs
 
 add-last : tie.Need-add-last
 add-last c = omega (arith, c .wide .ensures .1, start (swept c) .pre .walks .few-rows)
@@ -30,19 +24,10 @@ add-last c = omega (arith, c .wide .ensures .1, start (swept c) .pre .walks .few
 add-last-2 : tie.Need-add-last-2
 add-last-2 c = omega (arith, c .wide .ensures .1, start (swept c) .pre .walks .few-rows)
 
-slice-aggregate-release : tie.Need-slice-aggregate-release
-slice-aggregate-release c = search needs
-
 release-requires : tie.Need-release-requires
 release-requires c κs =
     let d = swept (c .before .before .before) in
     last-safe (start d .pre) (d .sweep .ensures) (d .sweep .kept .1 .1 .0)
-
-same-length : tie.Need-same-length
-same-length c = search needs
-
-same-length-2 : tie.Need-same-length-2
-same-length-2 c = search needs
 
 returns : tie.Need-returns
 returns c =
@@ -57,13 +42,13 @@ pub list-all-spec : {M : Type 1} → statement M
 list-all-spec =
     tie.close
     (tie.spec
-    slice-aggregate-sweep
+    (λ c. search needs)
     sweep-requires
-    wide-requires
+    (λ c κs. search needs)
     add-last
     add-last-2
-    slice-aggregate-release
+    (λ c. search needs)
     release-requires
-    same-length
-    same-length-2
+    (λ c. search needs)
+    (λ c. search needs)
     returns)

@@ -10,10 +10,11 @@ use Rattle.sweep.proofs.sweep.Statement.{statement}
 use Rattle.sweep.proofs.sweep.Tie as tie
 
 abbrev Inv-loop : tie.InvT-loop
-Inv-loop firsts nexts room₀ latest₀ ring c list₀ b tail₀ head₀ from₀ listed₀ k₀ room latest list tail head from listed k = SweepInv firsts nexts room₀ latest₀ list₀ ring c room latest list tail head from listed k
+Inv-loop firsts nexts room₀ latest₀ ring c list₀ b tail₀ head₀ from₀ listed₀ i₀ room latest list tail head from listed i =
+    SweepInv firsts nexts room₀ latest₀ list₀ ring c room latest list tail head from listed i
 
 abbrev μ-loop : tie.MeasureT-loop
-μ-loop firsts nexts room₀ latest₀ ring c list₀ b tail₀ head₀ from₀ listed₀ k₀ room latest list tail head from listed k = length firsts - k
+μ-loop firsts nexts room₀ latest₀ ring c list₀ b tail₀ head₀ from₀ listed₀ i₀ room latest list tail head from listed i = length firsts - i
 
 -- the places that are spoken of: the start, and in the loop its test and where it is told whether a row leaves
 abbrev start : tie.After-wide Inv-loop μ-loop → tie.Start Inv-loop μ-loop
@@ -21,9 +22,6 @@ start w = w .before .before .before .before .before .before
 
 abbrev testing : tie.After-leaves Inv-loop μ-loop → tie.In-loop Inv-loop μ-loop
 testing d = d .before .before .before
-
-wide-requires : tie.Need-wide-requires Inv-loop μ-loop
-wide-requires c κs = search needs
 
 loop-holds : tie.Need-loop-holds Inv-loop μ-loop
 loop-holds c = let s = c .before .before .before .before .before .before in sweep-start (s .pre .0) (s .pre .1)
@@ -34,14 +32,11 @@ mul-wide c = omega arith
 shared-slice-read-wide : tie.Need-shared-slice-read-wide Inv-loop μ-loop
 shared-slice-read-wide c = omega arith
 
-wide-requires-2 : tie.Need-wide-requires-2 Inv-loop μ-loop
-wide-requires-2 c κs = search needs
-
 leaves-requires : tie.Need-leaves-requires Inv-loop μ-loop
 leaves-requires c κs = c .before .before .loop-test .taken
 
-add-k : tie.Need-add-k Inv-loop μ-loop
-add-k c =
+add-i : tie.Need-add-i Inv-loop μ-loop
+add-i c =
     let n = testing c in
     omega (arith, n .loop-test .taken, start (n .before .before) .pre .0 .walks .few-rows)
 
@@ -58,7 +53,8 @@ left : (c : tie.Joined1 Inv-loop μ-loop)
     let l = n .before in
     let a = start (l .before) .args in
     let v = l .loop in
-    Left (a .firsts .now) (a .nexts .now) (a .ring) (a .c) (v .room) (v .latest) (v .list) (v .tail) (v .head) (v .from) (v .listed) (v .k) (c .if1 .list) (c .if1 .tail) (c .if1 .listed)
+    Left (a .firsts .now) (a .nexts .now) (a .ring) (a .c) (v .room) (v .latest) (v .list) (v .tail) (v .head) (v .from) (v .listed) (v .i) (c .if1 .list)
+    (c .if1 .tail) (c .if1 .listed)
 left c =
     let n = testing (c .before) in
     let l = n .before in
@@ -66,7 +62,8 @@ left c =
     let s = start w in
     ⊎-elim
     (λ t. rw (t .7, t .8, t .9) (left-released (s .pre .0) (s .pre .1) (l .loop .inv) (n .loop-test .taken) (t .4 .ensures)))
-    (λ f. rw (f .1, f .2, f .3) (left-none (s .pre .0) (s .pre .1) (l .loop .inv) (n .loop-test .taken) (w .wide .ensures .0) (sym (c .before .leaves .ensures) ∙ f .0 .left)))
+    (λ f. rw (f .1, f .2, f .3) (left-none (s .pre .0) (s .pre .1) (l .loop .inv) (n .loop-test .taken) (w .wide .ensures .0)
+    (sym (c .before .leaves .ensures) ∙ f .0 .left)))
     (c .if1 .came)
 
 store-row-requires : tie.Need-store-row-requires Inv-loop μ-loop
@@ -76,9 +73,6 @@ store-row-requires c κs =
     let l = n .before in
     let s = start (l .before) in
     row-safe (s .pre .0) (s .pre .1) (l .loop .inv) (n .loop-test .taken) (e .before .wide2 .ensures .0)
-
-later-from-requires : tie.Need-later-from-requires Inv-loop μ-loop
-later-from-requires c κs = search needs
 
 loop-less : tie.Need-loop-less Inv-loop μ-loop
 loop-less c =
@@ -94,7 +88,8 @@ loop-again c =
     let l = n .before in
     let w = l .before in
     let s = start w in
-    sweep-next (s .pre .0) (s .pre .1) (l .loop .inv) (n .loop-test .taken) (r .wide2 .ensures .0) (left d) (e .store-row .kept .1 .1 .0) (e .store-row .kept .1 .1 .1 .0) (w .wide .ensures .0) (e .store-row .ensures) (c .later-from .ensures)
+    sweep-next (s .pre .0) (s .pre .1) (l .loop .inv) (n .loop-test .taken) (r .wide2 .ensures .0) (left d) (e .store-row .kept .1 .1 .0)
+    (e .store-row .kept .1 .1 .1 .0) (w .wide .ensures .0) (e .store-row .ensures) (c .later-from .ensures)
 
 same-length : tie.Need-same-length Inv-loop μ-loop
 same-length c = c .before .loop .inv .long
@@ -117,16 +112,16 @@ sweep-spec =
     (tie.spec
     Inv-loop
     μ-loop
-    wide-requires
+    (λ c κs. search needs)
     loop-holds
     mul-wide
     shared-slice-read-wide
-    wide-requires-2
+    (λ c κs. search needs)
     leaves-requires
-    add-k
+    add-i
     release-requires
     store-row-requires
-    later-from-requires
+    (λ c κs. search needs)
     loop-less
     loop-again
     same-length

@@ -26,9 +26,6 @@ mul-wide c = omega arith
 shared-slice-read-wide : tie.Need-shared-slice-read-wide Inv-loop μ-loop
 shared-slice-read-wide c = omega arith
 
-wide-requires : tie.Need-wide-requires Inv-loop μ-loop
-wide-requires c κs = search needs
-
 row-size-requires : tie.Need-row-size-requires Inv-loop μ-loop
 row-size-requires c κs =
     let safe = c .before .before .before .before .before .before .pre in
@@ -50,12 +47,6 @@ leaving-requires : tie.Need-leaving-requires Inv-loop μ-loop
 leaving-requires c κs =
     let i = c .before .before .before in
     (i .before .before .before .before .pre, i .loop-test .taken)
-
-minus-requires : tie.Need-minus-requires Inv-loop μ-loop
-minus-requires c κs = search needs
-
-larger-requires : tie.Need-larger-requires Inv-loop μ-loop
-larger-requires c κs = search needs
 
 add-p : tie.Need-add-p Inv-loop μ-loop
 add-p c = omega arith
@@ -89,13 +80,13 @@ count-matches-spec =
     loop-holds
     mul-wide
     shared-slice-read-wide
-    wide-requires
+    (λ c κs. search needs)
     row-size-requires
     add-matches
     add-minus
     leaving-requires
-    minus-requires
-    larger-requires
+    (λ c κs. search needs)
+    (λ c κs. search needs)
     add-p
     loop-less
     loop-again

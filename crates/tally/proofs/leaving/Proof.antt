@@ -12,21 +12,6 @@ returns c =
     let a = c .before .before .before .args in
     leaves-none (a .firsts .now) (a .nexts .now) (a .b) (a .p) (c .if1 .taken)
 
-sub-wide : tie.Need-sub-wide
-sub-wide c = search needs
-
-sub-wide-2 : tie.Need-sub-wide-2
-sub-wide-2 c = search needs
-
-mul-wide : tie.Need-mul-wide
-mul-wide c = search needs
-
-shared-slice-read-wide : tie.Need-shared-slice-read-wide
-shared-slice-read-wide c = search needs
-
-wide-requires : tie.Need-wide-requires
-wide-requires c κs = search needs
-
 row-size-requires : tie.Need-row-size-requires
 row-size-requires c κs =
     let s = c .before .before .before .before .before in
@@ -46,10 +31,10 @@ leaving-spec =
     tie.close
     (tie.spec
     returns
-    sub-wide
-    sub-wide-2
-    mul-wide
-    shared-slice-read-wide
-    wide-requires
+    (λ c. search needs)
+    (λ c. search needs)
+    (λ c. search needs)
+    (λ c. search needs)
+    (λ c κs. search needs)
     row-size-requires
     returns-2)

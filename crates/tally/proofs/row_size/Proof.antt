@@ -30,9 +30,6 @@ mul-wide c = omega arith
 shared-slice-read-wide : tie.Need-shared-slice-read-wide Inv-loop μ-loop
 shared-slice-read-wide c = omega (arith, c .before .before .loop .inv .inside)
 
-wide-requires : tie.Need-wide-requires Inv-loop μ-loop
-wide-requires c κs = search needs
-
 loop-less : tie.Need-loop-less Inv-loop μ-loop
 loop-less c =
     let l = c .before .before .before in
@@ -62,7 +59,7 @@ row-size-spec =
     sub-wide
     mul-wide
     shared-slice-read-wide
-    wide-requires
+    (λ c κs. search needs)
     loop-less
     loop-again
     returns)

@@ -34,15 +34,6 @@ mul-wide c = omega (arith, c .before .before .before .before .good)
 slice-read-wide : tie.Need-slice-read-wide Inv-loop μ-loop
 slice-read-wide c = omega arith
 
-wide-requires : tie.Need-wide-requires Inv-loop μ-loop
-wide-requires c κs = search needs
-
-add-j : tie.Need-add-j Inv-loop μ-loop
-add-j c = search needs
-
-sub-q : tie.Need-sub-q Inv-loop μ-loop
-sub-q c = search needs
-
 mul-if2 : tie.Need-mul-if2 Inv-loop μ-loop
 mul-if2 c = omega (arith, owner-there c, start (c .before .before .before .before) .good)
 
@@ -57,25 +48,16 @@ mul-firsts c =
 slice-write-firsts : tie.Need-slice-write-firsts Inv-loop μ-loop
 slice-write-firsts c = omega arith
 
-loop-less : tie.Need-loop-less Inv-loop μ-loop
-loop-less c = search needs
-
 loop-again : tie.Need-loop-again Inv-loop μ-loop
 loop-again c =
     let read = c .before .before .before in
     let l = read .before .before .before in
     (search needs, capped-unused (read .wide .ensures .0) (l .loop .inv .1) (omega arith) (omega arith))
 
-loop-less-2 : tie.Need-loop-less-2 Inv-loop μ-loop
-loop-less-2 c = search needs
-
 loop-again-2 : tie.Need-loop-again-2 Inv-loop μ-loop
 loop-again-2 c =
     let l = c .before .before .before .before .before .before in
     (search needs, capped-used (c .before .before .before .wide .ensures .0) (l .loop .inv .1) (omega arith))
-
-loop-less-3 : tie.Need-loop-less-3 Inv-loop μ-loop
-loop-less-3 c = search needs
 
 loop-again-3 : tie.Need-loop-again-3 Inv-loop μ-loop
 loop-again-3 c = (search needs, capped-none (c .before .wide .ensures .0) (c .before .before .before .before .loop .inv .1) (c .if1 .left))
@@ -95,18 +77,18 @@ cap-spec =
     loop-holds
     mul-wide
     slice-read-wide
-    wide-requires
-    add-j
-    sub-q
+    (λ c κs. search needs)
+    (λ c. search needs)
+    (λ c. search needs)
     mul-if2
     shared-slice-read-if2
     mul-firsts
     slice-write-firsts
-    loop-less
+    (λ c. search needs)
     loop-again
-    loop-less-2
+    (λ c. search needs)
     loop-again-2
-    loop-less-3
+    (λ c. search needs)
     loop-again-3
     same-length
     returns)

@@ -5,9 +5,6 @@ use Rattle.totals.proofs.Counting.{count-below, count-above}
 use Rattle.totals.proofs.count_on.Statement.{statement}
 use Rattle.totals.proofs.count_on.Tie as tie
 
-add-result : tie.Need-add-result
-add-result c = search needs
-
 returns : tie.Need-returns
 returns c = count-below (omega arith)
 
@@ -15,4 +12,4 @@ returns-2 : tie.Need-returns-2
 returns-2 c = count-above (omega arith)
 
 pub count-on-spec : {M : Type 1} → statement M
-count-on-spec = tie.close (tie.spec add-result returns returns-2)
+count-on-spec = tie.close (tie.spec (λ c. search needs) returns returns-2)

@@ -37,15 +37,6 @@ mul-wide c = omega (arith, c .before .before .before .before .good)
 slice-read-wide : tie.Need-slice-read-wide Inv-loop μ-loop
 slice-read-wide c = omega arith
 
-wide-requires : tie.Need-wide-requires Inv-loop μ-loop
-wide-requires c κs = search needs
-
-add-j : tie.Need-add-j Inv-loop μ-loop
-add-j c = search needs
-
-sub-q : tie.Need-sub-q Inv-loop μ-loop
-sub-q c = search needs
-
 mul-v : tie.Need-mul-v Inv-loop μ-loop
 mul-v c = omega (arith, owner-there c, start (turning (c .before)) .good)
 
@@ -57,9 +48,6 @@ mul-firsts c = omega (arith, start (turning (c .before .before .before)) .good)
 
 slice-write-firsts : tie.Need-slice-write-firsts Inv-loop μ-loop
 slice-write-firsts c = omega arith
-
-loop-less : tie.Need-loop-less Inv-loop μ-loop
-loop-less c = search needs
 
 loop-again : tie.Need-loop-again Inv-loop μ-loop
 loop-again c =
@@ -85,12 +73,6 @@ mul-count c = omega (arith, owner-there (c .before .before), start (turning (c .
 slice-write-count : tie.Need-slice-write-count Inv-loop μ-loop
 slice-write-count c = omega (arith, owner-there (c .before .before))
 
-passes-requires : tie.Need-passes-requires Inv-loop μ-loop
-passes-requires c κs = search needs
-
-loop-less-2 : tie.Need-loop-less-2 Inv-loop μ-loop
-loop-less-2 c = search needs
-
 loop-again-2 : tie.Need-loop-again-2 Inv-loop μ-loop
 loop-again-2 c =
     let some = c .before .before .before .if1 .taken in
@@ -99,9 +81,6 @@ loop-again-2 c =
     let l = turning read in
     let bound = start l .pre .1 .1 .0 in
     (search needs, row-counted (read .wide .ensures .0) (l .loop .inv .1) some more bound (omega arith) (c .passes .ensures) (omega arith) (omega arith))
-
-loop-less-3 : tie.Need-loop-less-3 Inv-loop μ-loop
-loop-less-3 c = search needs
 
 loop-again-3 : tie.Need-loop-again-3 Inv-loop μ-loop
 loop-again-3 c =
@@ -128,22 +107,22 @@ count-rows-spec =
     loop-holds
     mul-wide
     slice-read-wide
-    wide-requires
-    add-j
-    sub-q
+    (λ c κs. search needs)
+    (λ c. search needs)
+    (λ c. search needs)
     mul-v
     slice-read-v
     mul-firsts
     slice-write-firsts
-    loop-less
+    (λ c. search needs)
     loop-again
     add-count
     mul-count
     slice-write-count
-    passes-requires
-    loop-less-2
+    (λ c κs. search needs)
+    (λ c. search needs)
     loop-again-2
-    loop-less-3
+    (λ c. search needs)
     loop-again-3
     same-length
     same-length-2

@@ -9,9 +9,6 @@ use Rattle.turns.proofs.frame_number.Tie as tie
 returns : tie.Need-returns
 returns c = let a = c .before .before .args in line-wrong (a .turn) (a .frame) (c .if1 .taken)
 
-in-turn-requires : tie.Need-in-turn-requires
-in-turn-requires c κs = search needs
-
 returns-2 : tie.Need-returns-2
 unfolding knownKind
 returns-2 c =
@@ -38,4 +35,4 @@ returns-4 c =
     kind-unknown (a .turn) (a .frame) (e .if1 .left) (c .if2 .left)
 
 pub frame-number-spec : {M : Type 1} → statement M
-frame-number-spec = tie.close (tie.spec returns in-turn-requires returns-2 returns-3 returns-4)
+frame-number-spec = tie.close (tie.spec returns (λ c κs. search needs) returns-2 returns-3 returns-4)

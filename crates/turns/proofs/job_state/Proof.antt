@@ -25,33 +25,6 @@ wrong-size : (c : tie.Else1) → jobSize (c .before .before .args .size) ≡ fal
 unfolding jobSize
 wrong-size c = c .if1 .left
 
-number-at-requires : tie.Need-number-at-requires
-number-at-requires c κs = search needs
-
-cast-t9 : tie.Need-cast-t9
-cast-t9 c = search needs
-
-number-at-requires-2 : tie.Need-number-at-requires-2
-number-at-requires-2 c κs = search needs
-
-cast-t11 : tie.Need-cast-t11
-cast-t11 c = search needs
-
-number-at-requires-3 : tie.Need-number-at-requires-3
-number-at-requires-3 c κs = search needs
-
-cast-t13 : tie.Need-cast-t13
-cast-t13 c = search needs
-
-number-at-requires-4 : tie.Need-number-at-requires-4
-number-at-requires-4 c κs = search needs
-
-cast-t15 : tie.Need-cast-t15
-cast-t15 c = search needs
-
-strand-in-requires : tie.Need-strand-in-requires
-strand-in-requires c κs = search needs
-
 returns : tie.Need-returns
 unfolding jobState jobIn
 returns c =
@@ -61,9 +34,6 @@ returns c =
     let n1 = n2 .before in
     rw (right-size (n1 .before), n1 .number-at .ensures .0, n2 .number-at2 .ensures .0, n3 .number-at3 .ensures .0, n4 .number-at4 .ensures .0, strand-read c)
 
-number-state-requires : tie.Need-number-state-requires
-number-state-requires c κs = search needs
-
 returns-2 : tie.Need-returns-2
 unfolding jobState
 returns-2 c = c .number-state .ensures ∙ rw (wrong-size (c .before))
@@ -72,15 +42,15 @@ pub job-state-spec : {M : Type 1} → statement M
 job-state-spec =
     tie.close
     (tie.spec
-    number-at-requires
-    cast-t9
-    number-at-requires-2
-    cast-t11
-    number-at-requires-3
-    cast-t13
-    number-at-requires-4
-    cast-t15
-    strand-in-requires
+    (λ c κs. search needs)
+    (λ c. search needs)
+    (λ c κs. search needs)
+    (λ c. search needs)
+    (λ c κs. search needs)
+    (λ c. search needs)
+    (λ c κs. search needs)
+    (λ c. search needs)
+    (λ c κs. search needs)
     returns
-    number-state-requires
+    (λ c κs. search needs)
     returns-2)

@@ -5,12 +5,6 @@ use borrow.Author.Needs.{needs}
 use Rattle.turns.proofs.strand_in.Statement.{statement}
 use Rattle.turns.proofs.strand_in.Tie as tie
 
-number-at-requires : tie.Need-number-at-requires
-number-at-requires c κs = search needs
-
-cast-result : tie.Need-cast-result
-cast-result c = search needs
-
 returns : tie.Need-returns
 unfolding strandIn
 returns c = rw (c .before .if1 .taken) (c .number-at .ensures .0)
@@ -20,4 +14,4 @@ unfolding strandIn
 returns-2 c = rw (ne-eqb _ _ (c .if1 .left))
 
 pub strand-in-spec : {M : Type 1} → statement M
-strand-in-spec = tie.close (tie.spec number-at-requires cast-result returns returns-2)
+strand-in-spec = tie.close (tie.spec (λ c κs. search needs) (λ c. search needs) returns returns-2)

@@ -3,9 +3,9 @@ use mathlib.Core.Path.{_≡_, sym, ap, _∙_}
 use Prim.Native.Nat.{ℕ, _+_, _-_, _≤_}
 use native.Mathlib.Omega.{arith}
 use lib.ListN.{take, drop, replicate}
-use Rattle.lines.specs.declared.Frame.{Frame}
-use Rattle.lines.specs.Reading.{frameIn}
-use Rattle.lines.proofs.Frames.{count-most}
+use Rattle.decoding.specs.declared.Frame.{Frame}
+use Rattle.decoding.specs.Reading.{frameIn}
+use Rattle.decoding.proofs.Frames.{count-most}
 use Rattle.turns.specs.Turns.{frameNumber, payloadIn}
 use Rattle.turns.proofs.Taking.{line-refused, found, size-is, payload-is, job-taken, first-taken, second-taken, end-taken}
 use borrow.Author.Needs.{needs}
@@ -43,18 +43,6 @@ payload c =
     ap (λ (n : ℕ). take n (drop 2 (reading c .read-line .last .1 .0))) e
     ∙ payload-is _ (a .s) (a .first .now) (a .second .now) (entry c .pre) (none-wrong c) (replicate 67 0) _ (omega arith) (reading c .read-line .ensures .1)
 
-slice-aggregate-read-line : tie.Need-slice-aggregate-read-line
-slice-aggregate-read-line c = search needs
-
-read-line-requires : tie.Need-read-line-requires
-read-line-requires c κs = search needs
-
-frame-number-requires : tie.Need-frame-number-requires
-frame-number-requires c κs = search needs
-
-number-state-requires : tie.Need-number-state-requires
-number-state-requires c κs = search needs
-
 returns : tie.Need-returns
 returns c =
     let n = c .before .before in
@@ -66,12 +54,6 @@ returns c =
 add-end : tie.Need-add-end
 add-end c = omega (arith, inside (c .before))
 
-slice-aggregate-job-state : tie.Need-slice-aggregate-job-state
-slice-aggregate-job-state c = search needs
-
-job-state-requires : tie.Need-job-state-requires
-job-state-requires c κs = search needs
-
 returns-2 : tie.Need-returns-2
 returns-2 c =
     let e = c .before .before .before .before .before in
@@ -79,23 +61,8 @@ returns-2 c =
     job-taken _ (a .s) (a .first .now) (a .second .now) (entry e .pre) (none-wrong e) (replicate 67 0) _ (omega arith) (reading e .read-line .ensures .1) _ _
     (sym (kind-is e) ∙ c .before .before .if2 .taken) (same-size e) (c .job-state .ensures)
 
-sub-take-piece : tie.Need-sub-take-piece
-sub-take-piece c = search needs
-
-part-take-piece-start : tie.Need-part-take-piece-start
-part-take-piece-start c = search needs
-
 part-take-piece-end : tie.Need-part-take-piece-end
 part-take-piece-end c = let e = c .before .before .before .before .before .before in omega (arith, inside e, reading e .read-line .kept)
-
-take-piece-requires : tie.Need-take-piece-requires
-take-piece-requires c κs = search needs
-
-first-state-requires : tie.Need-first-state-requires
-first-state-requires c κs = search needs
-
-same-length : tie.Need-same-length
-same-length c = search needs
 
 returns-3 : tie.Need-returns-3
 returns-3 c =
@@ -106,26 +73,11 @@ returns-3 c =
     first-taken _ (a .s) (a .first .now) (a .second .now) (entry e .pre) (none-wrong e) _ _ _ _ (sym (kind-is e) ∙ k .if3 .taken) (payload e)
     (p .take-piece .ensures .0) (p .take-piece .ensures .1) (c .first-state .ensures)
 
-sub-take-piece-2 : tie.Need-sub-take-piece-2
-sub-take-piece-2 c = search needs
-
-part-take-piece-start-2 : tie.Need-part-take-piece-start-2
-part-take-piece-start-2 c = search needs
-
 part-take-piece-end-2 : tie.Need-part-take-piece-end-2
 part-take-piece-end-2 c =
     let k = c .before in
     let e = k .before .before .before .before .before .before .before in
     omega (arith, inside e, reading e .read-line .kept)
-
-take-piece-requires-2 : tie.Need-take-piece-requires-2
-take-piece-requires-2 c κs = search needs
-
-second-state-requires : tie.Need-second-state-requires
-second-state-requires c κs = search needs
-
-same-length-2 : tie.Need-same-length-2
-same-length-2 c = search needs
 
 returns-4 : tie.Need-returns-4
 returns-4 c =
@@ -135,9 +87,6 @@ returns-4 c =
     let a = entry e .args in
     second-taken _ (a .s) (a .first .now) (a .second .now) (entry e .pre) (none-wrong e) _ _ _ _ (sym (kind-is e) ∙ k .if4 .taken) (payload e)
     (p .take-piece2 .ensures .0) (p .take-piece2 .ensures .1) (c .second-state .ensures)
-
-end-state-requires : tie.Need-end-state-requires
-end-state-requires c κs = search needs
 
 returns-5 : tie.Need-returns-5
 returns-5 c =
@@ -153,28 +102,28 @@ pub take-line-spec : {M : Type 1} → statement M
 take-line-spec =
     tie.close
     (tie.spec
-    slice-aggregate-read-line
-    read-line-requires
-    frame-number-requires
-    number-state-requires
+    (λ c. search needs)
+    (λ c κs. search needs)
+    (λ c κs. search needs)
+    (λ c κs. search needs)
     returns
     add-end
-    slice-aggregate-job-state
-    job-state-requires
+    (λ c. search needs)
+    (λ c κs. search needs)
     returns-2
-    sub-take-piece
-    part-take-piece-start
+    (λ c. search needs)
+    (λ c. search needs)
     part-take-piece-end
-    take-piece-requires
-    first-state-requires
-    same-length
+    (λ c κs. search needs)
+    (λ c κs. search needs)
+    (λ c. search needs)
     returns-3
-    sub-take-piece-2
-    part-take-piece-start-2
+    (λ c. search needs)
+    (λ c. search needs)
     part-take-piece-end-2
-    take-piece-requires-2
-    second-state-requires
-    same-length-2
+    (λ c κs. search needs)
+    (λ c κs. search needs)
+    (λ c. search needs)
     returns-4
-    end-state-requires
+    (λ c κs. search needs)
     returns-5)

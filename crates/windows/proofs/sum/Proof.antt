@@ -23,9 +23,6 @@ mul-wrapping-add-u32 c = omega arith
 element-copy-out-wrapping-add-u32 : tie.Need-element-copy-out-wrapping-add-u32 Inv-loop μ-loop
 element-copy-out-wrapping-add-u32 c = omega arith
 
-wrapping-add-u32-requires : tie.Need-wrapping-add-u32-requires Inv-loop μ-loop
-wrapping-add-u32-requires c κs = search needs
-
 add-q : tie.Need-add-q Inv-loop μ-loop
 add-q c = omega arith
 
@@ -55,7 +52,7 @@ sum-spec =
     loop-holds
     mul-wrapping-add-u32
     element-copy-out-wrapping-add-u32
-    wrapping-add-u32-requires
+    (λ c κs. search needs)
     add-q
     loop-less
     loop-again

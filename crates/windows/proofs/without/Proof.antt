@@ -10,17 +10,11 @@ returns c =
     let a = c .before .args in
     rw (after-window (a .b) (a .at) (a .q) (omega (arith, c .if1 .taken))) (omega arith)
 
-minus-requires : tie.Need-minus-requires
-minus-requires c κs = search needs
-
 returns-2 : tie.Need-returns-2
 returns-2 c =
     let m = c .before in
     let a = m .before .before .args in
     rw (before-window (a .b) (a .at) (a .q) (omega (arith, m .minus .ensures, c .if2 .taken))) (omega arith)
-
-wrapping-sub-u32-requires : tie.Need-wrapping-sub-u32-requires
-wrapping-sub-u32-requires c κs = search needs
 
 returns-3 : tie.Need-returns-3
 returns-3 c =
@@ -31,4 +25,4 @@ returns-3 c =
 
 pub without-spec : {M : Type 1} → statement M
 without-spec =
-    tie.close (tie.spec returns minus-requires returns-2 wrapping-sub-u32-requires returns-3)
+    tie.close (tie.spec returns (λ c κs. search needs) returns-2 (λ c κs. search needs) returns-3)

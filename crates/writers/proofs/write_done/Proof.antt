@@ -9,21 +9,6 @@ use borrow.Author.Needs.{needs}
 use Rattle.writers.proofs.write_done.Statement.{statement}
 use Rattle.writers.proofs.write_done.Tie as tie
 
-done-payload-requires : tie.Need-done-payload-requires
-done-payload-requires c κs = search needs
-
-done-fits-requires : tie.Need-done-fits-requires
-done-fits-requires c κs = search needs
-
-slice-aggregate-write-fitting : tie.Need-slice-aggregate-write-fitting
-slice-aggregate-write-fitting c = search needs
-
-write-fitting-requires : tie.Need-write-fitting-requires
-write-fitting-requires c κs = search needs
-
-same-length : tie.Need-same-length
-same-length c = search needs
-
 returns : tie.Need-returns
 unfolding doneLine donePayload numberBytes
 returns c =
@@ -39,9 +24,9 @@ pub write-done-spec : {M : Type 1} → statement M
 write-done-spec =
     tie.close
     (tie.spec
-    done-payload-requires
-    done-fits-requires
-    slice-aggregate-write-fitting
-    write-fitting-requires
-    same-length
+    (λ c κs. search needs)
+    (λ c κs. search needs)
+    (λ c. search needs)
+    (λ c κs. search needs)
+    (λ c. search needs)
     returns)

@@ -4,15 +4,6 @@ use borrow.Author.Needs.{needs}
 use Rattle.writers.proofs.write_end.Statement.{statement}
 use Rattle.writers.proofs.write_end.Tie as tie
 
-slice-aggregate-write-line : tie.Need-slice-aggregate-write-line
-slice-aggregate-write-line c = search needs
-
-write-line-requires : tie.Need-write-line-requires
-write-line-requires c κs = search needs
-
-same-length : tie.Need-same-length
-same-length c = search needs
-
 returns : tie.Need-returns
 unfolding endLine
 returns c =
@@ -21,4 +12,4 @@ returns c =
 
 pub write-end-spec : {M : Type 1} → statement M
 write-end-spec =
-    tie.close (tie.spec slice-aggregate-write-line write-line-requires same-length returns)
+    tie.close (tie.spec (λ c. search needs) (λ c κs. search needs) (λ c. search needs) returns)

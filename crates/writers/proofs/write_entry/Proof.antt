@@ -4,12 +4,6 @@ use borrow.Author.Needs.{needs}
 use Rattle.writers.proofs.write_entry.Statement.{statement}
 use Rattle.writers.proofs.write_entry.Tie as tie
 
-write-entry-of-requires : tie.Need-write-entry-of-requires
-write-entry-of-requires c κs = search needs
-
-same-length : tie.Need-same-length
-same-length c = search needs
-
 returns : tie.Need-returns
 unfolding entryLine
 returns c =
@@ -17,4 +11,4 @@ returns c =
     (w .write-entry-of .ensures .0, w .write-entry-of .ensures .1)
 
 pub write-entry-spec : {M : Type 1} → statement M
-write-entry-spec = tie.close (tie.spec write-entry-of-requires same-length returns)
+write-entry-spec = tie.close (tie.spec (λ c κs. search needs) (λ c. search needs) returns)

@@ -9,21 +9,6 @@ use borrow.Author.Needs.{needs}
 use Rattle.writers.proofs.write_entry_of.Statement.{statement}
 use Rattle.writers.proofs.write_entry_of.Tie as tie
 
-entry-payload-requires : tie.Need-entry-payload-requires
-entry-payload-requires c κs = search needs
-
-entry-fits-requires : tie.Need-entry-fits-requires
-entry-fits-requires c κs = search needs
-
-slice-aggregate-write-fitting : tie.Need-slice-aggregate-write-fitting
-slice-aggregate-write-fitting c = search needs
-
-write-fitting-requires : tie.Need-write-fitting-requires
-write-fitting-requires c κs = search needs
-
-same-length : tie.Need-same-length
-same-length c = search needs
-
 returns : tie.Need-returns
 unfolding entryPayload numberBytes
 returns c =
@@ -39,9 +24,9 @@ pub write-entry-of-spec : {M : Type 1} → statement M
 write-entry-of-spec =
     tie.close
     (tie.spec
-    entry-payload-requires
-    entry-fits-requires
-    slice-aggregate-write-fitting
-    write-fitting-requires
-    same-length
+    (λ c κs. search needs)
+    (λ c κs. search needs)
+    (λ c. search needs)
+    (λ c κs. search needs)
+    (λ c. search needs)
     returns)

@@ -7,12 +7,6 @@ use borrow.Author.Needs.{needs}
 use Rattle.writers.proofs.write_fitting.Statement.{statement}
 use Rattle.writers.proofs.write_fitting.Tie as tie
 
-write-line-requires : tie.Need-write-line-requires
-write-line-requires c κs = search needs
-
-same-length : tie.Need-same-length
-same-length c = search needs
-
 returns : tie.Need-returns
 returns c =
     let w = c .before .before in
@@ -26,4 +20,4 @@ returns-2 c =
     not-fitting _ (a .out .now) (a .fits && leb (length (a .payload .now)) 64) (rw (c .if1 .left))
 
 pub write-fitting-spec : {M : Type 1} → statement M
-write-fitting-spec = tie.close (tie.spec write-line-requires same-length returns returns-2)
+write-fitting-spec = tie.close (tie.spec (λ c κs. search needs) (λ c. search needs) returns returns-2)

@@ -17,26 +17,11 @@ start c = c .before .before .before
 front : (c : tie.After-job-size) → take (c .job-size .result) (c .before .job-bytes .result) ≡ jobPayload (start c .args .job)
 front c = job-front (start c .args .job) (c .before .job-bytes .ensures) (c .job-size .ensures)
 
-job-bytes-requires : tie.Need-job-bytes-requires
-job-bytes-requires c κs = search needs
-
-job-size-requires : tie.Need-job-size-requires
-job-size-requires c κs = search needs
-
-job-fits-requires : tie.Need-job-fits-requires
-job-fits-requires c κs = search needs
-
 array-share-prefix-payload : tie.Need-array-share-prefix-payload
 array-share-prefix-payload c = let s = c .before in omega (arith, s .job-size .ensures, job-short (start s .args .job))
 
 slice-aggregate-write-fitting : tie.Need-slice-aggregate-write-fitting
 slice-aggregate-write-fitting c = let s = c .before .before in s .job-size .ensures ∙ ap length (sym (front s))
-
-write-fitting-requires : tie.Need-write-fitting-requires
-write-fitting-requires c κs = search needs
-
-same-length : tie.Need-same-length
-same-length c = search needs
 
 returns : tie.Need-returns
 unfolding jobLine
@@ -52,11 +37,11 @@ pub write-job-spec : {M : Type 1} → statement M
 write-job-spec =
     tie.close
     (tie.spec
-    job-bytes-requires
-    job-size-requires
-    job-fits-requires
+    (λ c κs. search needs)
+    (λ c κs. search needs)
+    (λ c κs. search needs)
     array-share-prefix-payload
     slice-aggregate-write-fitting
-    write-fitting-requires
-    same-length
+    (λ c κs. search needs)
+    (λ c. search needs)
     returns)

@@ -22,12 +22,6 @@ few c = omega (arith, fits c .few, packed-length (c .before .before .before .bef
 front : (c : tie.After-pack) → take (c .pack .result) (c .pack .last .1 .0) ≡ codeBytes (c .before .before .before .before .before .before .args .codes .now)
 front c = packed-front _ (replicate 64 0) _ _ (c .pack .ensures .0) (c .pack .ensures .1) (few (c .before .before))
 
-piece-fits-requires : tie.Need-piece-fits-requires
-piece-fits-requires c κs = search needs
-
-slice-aggregate-pack : tie.Need-slice-aggregate-pack
-slice-aggregate-pack c = search needs
-
 pack-requires : tie.Need-pack-requires
 pack-requires c κs = let f = fits (c .before) in (f .are, omega (arith, f .few))
 
@@ -39,12 +33,6 @@ array-share-prefix-payload c = omega (arith, c .before .pack .ensures .0, c .bef
 
 slice-aggregate-write-line : tie.Need-slice-aggregate-write-line
 slice-aggregate-write-line c = c .before .before .pack .ensures .0 ∙ ap length (sym (front (c .before .before)))
-
-write-line-requires : tie.Need-write-line-requires
-write-line-requires c κs = search needs
-
-same-length : tie.Need-same-length
-same-length c = search needs
 
 returns : tie.Need-returns
 unfolding pieceLine
@@ -65,13 +53,13 @@ pub write-piece-spec : {M : Type 1} → statement M
 write-piece-spec =
     tie.close
     (tie.spec
-    piece-fits-requires
-    slice-aggregate-pack
+    (λ c κs. search needs)
+    (λ c. search needs)
     pack-requires
     add-write-line
     array-share-prefix-payload
     slice-aggregate-write-line
-    write-line-requires
-    same-length
+    (λ c κs. search needs)
+    (λ c. search needs)
     returns
     returns-2)

@@ -9,21 +9,6 @@ use borrow.Author.Needs.{needs}
 use Rattle.writers.proofs.write_refused.Statement.{statement}
 use Rattle.writers.proofs.write_refused.Tie as tie
 
-refused-payload-requires : tie.Need-refused-payload-requires
-refused-payload-requires c κs = search needs
-
-refused-fits-requires : tie.Need-refused-fits-requires
-refused-fits-requires c κs = search needs
-
-slice-aggregate-write-fitting : tie.Need-slice-aggregate-write-fitting
-slice-aggregate-write-fitting c = search needs
-
-write-fitting-requires : tie.Need-write-fitting-requires
-write-fitting-requires c κs = search needs
-
-same-length : tie.Need-same-length
-same-length c = search needs
-
 returns : tie.Need-returns
 unfolding refusedLine refusedPayload numberBytes
 returns c =
@@ -39,9 +24,9 @@ pub write-refused-spec : {M : Type 1} → statement M
 write-refused-spec =
     tie.close
     (tie.spec
-    refused-payload-requires
-    refused-fits-requires
-    slice-aggregate-write-fitting
-    write-fitting-requires
-    same-length
+    (λ c κs. search needs)
+    (λ c κs. search needs)
+    (λ c. search needs)
+    (λ c κs. search needs)
+    (λ c. search needs)
     returns)

@@ -1,0 +1,3 @@
+-- What a line says, in the words of document 01, "Frames".
+pub mod Digits
+pub mod Reading

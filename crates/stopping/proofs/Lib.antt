@@ -1,0 +1,4 @@
+pub mod Runs
+pub mod Holding
+pub mod Outcomes
+pub mod Unique

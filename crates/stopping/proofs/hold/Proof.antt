@@ -1,0 +1,67 @@
+-- `stopping::hold` meets its contract: with W 0 no run has a record, and else the sweep of the first rows leaves the run. Assumes nothing.
+use mathlib.Core.Path.{sym, ap, _∙_}
+use Prim.Native.Nat.{ℕ, _-_}
+use native.Mathlib.Omega.{arith}
+use lib.Seq.{length-take-le}
+use Rattle.stopping.proofs.Holding.{hold-safe, holds-none, holds-swept}
+use borrow.Author.Needs.{needs}
+use Rattle.stopping.proofs.hold.Statement.{statement}
+use Rattle.stopping.proofs.hold.Tie as tie
+
+-- the place where the ring is made, and the start
+abbrev start : tie.After-ring-from → tie.Start
+start r = r .before .before .before .before .before .before .before .before
+
+returns : tie.Need-returns
+returns c =
+    let d = c .before .before in
+    holds-none (d .before .before .if1 .taken) (d .zero-all .ensures)
+
+matches-before-requires : tie.Need-matches-before-requires
+matches-before-requires c κs =
+    let s = c .before .before .before .before .before .before in (s .pre .0 .walks, omega (arith, c .before-run .ensures, s .pre .1 .1 .1))
+
+ring-from-requires : tie.Need-ring-from-requires
+ring-from-requires c κs =
+    let e = c .before .before .before in
+    let s = e .before .before .before .before in
+    let n = e .if1 .left in
+    (omega arith, s .pre .1 .1 .0)
+
+slice-aggregate-hold-run : tie.Need-slice-aggregate-hold-run
+slice-aggregate-hold-run c =
+    let s = start (c .before) in
+    sym (length-take-le (s .args .row) (s .args .firsts .now) (s .pre .1 .1 .1))
+
+hold-run-requires : tie.Need-hold-run-requires
+hold-run-requires c κs =
+    let r = c .before .before in
+    let s = start r in
+    hold-safe (s .args .row) (s .pre .0) (s .pre .1 .0) (s .pre .1 .1 .1) (r .ring-from .ensures)
+
+returns-2 : tie.Need-returns-2
+returns-2 c =
+    let h = c .before .before in
+    let r = h .before .before .before in
+    let m = r .before in
+    let p = m .before in
+    let s = p .before .before .before .before .before .before in
+    holds-swept (s .pre .1 .1 .1)
+    (p .before-run .ensures ∙ ap (λ (b : ℕ). s .args .row - b - 1) (p .before .wide .ensures .0)) (m .matches-before .ensures) (r .ring-from .ensures)
+    (h .hold-run .ensures)
+
+pub hold-spec : {M : Type 1} → statement M
+hold-spec =
+    tie.close
+    (tie.spec
+    (λ c κs. search needs)
+    (λ c. search needs)
+    returns
+    (λ c κs. search needs)
+    (λ c κs. search needs)
+    matches-before-requires
+    ring-from-requires
+    slice-aggregate-hold-run
+    hold-run-requires
+    (λ c. search needs)
+    returns-2)

@@ -1,0 +1,73 @@
+-- `walks::forward` meets its contract: the pass wrote the codes of all places, and the matches are found from these. Assumes nothing.
+use mathlib.Core.Path.{_≡_, sym, ap, subst, _∙_}
+use mathlib.Core.List.{List}
+use Prim.Native.Nat.{ℕ, _≤_}
+use native.Mathlib.Omega.{arith}
+use lib.ListN.{length, take, length-append}
+use Rattle.rules.specs.Places.{places}
+use Rattle.rules.specs.Codes.{codes}
+use Rattle.rules.proofs.Kmers.{codes-length}
+use Rattle.kmers.proofs.Codes.{codes-front, places-few}
+use Rattle.nexts.specs.Nexts.{NextColumns}
+use Rattle.matches.specs.Columns.{FirstColumns}
+use Rattle.walks.proofs.Matching.{matched}
+use borrow.Author.Needs.{needs}
+use Rattle.walks.proofs.forward.Statement.{statement}
+use Rattle.walks.proofs.forward.Tie as tie
+
+-- the place where the second sequence is coded, and the start
+abbrev start : tie.After-code-all → tie.Start
+start p = p .before .before .before .before .before .before
+
+columns-are : (p : tie.After-code-all) → p .code-all .result ≡ places (start p .args .c .k) (start p .args .second .now)
+columns-are p = p .code-all .ensures .0
+
+-- what stands in front of the array
+codes-are : (p : tie.After-code-all) → take (p .code-all .result) (p .code-all .last .1 .1 .0) ≡ codes (start p .args .c .k) (start p .args .second .now)
+codes-are p = codes-front (start p .args .c .k) (start p .args .second .now) _ (columns-are p) (p .code-all .ensures .1)
+
+codes-long : (p : tie.After-code-all)
+    → length (take (p .code-all .result) (p .code-all .last .1 .1 .0)) ≡ places (start p .args .c .k) (start p .args .second .now)
+codes-long p = ap length (codes-are p) ∙ codes-length (start p .args .c .k) (start p .args .second .now)
+
+few : (p : tie.After-code-all) → places (start p .args .c .k) (start p .args .second .now) ≤ 16384
+few p = let s = start p in places-few (s .args .c .k) (s .args .second .now) (s .pre .0 .some-base) (s .pre .0 .short-second)
+
+array-share-prefix-codes : tie.Need-array-share-prefix-codes
+array-share-prefix-codes c =
+    let a = start c .args in
+    omega (arith, columns-are c, simp length-append at (ap length (c .code-all .ensures .1)), codes-length (a .c .k) (a .second .now))
+
+slice-aggregate-find-matches : tie.Need-slice-aggregate-find-matches
+slice-aggregate-find-matches c = let p = c .before in columns-are p ∙ sym (codes-long p)
+
+find-matches-requires : tie.Need-find-matches-requires
+find-matches-requires c κs =
+    let p = c .before .before .before in
+    let s = start p in
+    let rows = s .pre .0 .few-rows in
+    (rows, (omega (arith, codes-long p, few p), (omega (arith, rows, s .pre .1 .0 .long), omega (arith, codes-long p, few p, s .pre .1 .1 .long))))
+
+returns : tie.Need-returns
+returns c =
+    let m = c .before .before .before .before in
+    let p = m .before .before .before .before in
+    let s = start p in
+    let a = s .args in
+    let firsts = m .find-matches .last .1 .1 .1 .0 in
+    let nexts = m .find-matches .last .1 .1 .1 .1 .0 in
+    matched (a .c) (a .coded .now) (a .second .now) (s .pre .0) (a .firsts .now) (a .nexts .now) firsts nexts (s .pre .1 .0) (s .pre .1 .1)
+    (subst (λ (l : List ℕ). FirstColumns (a .coded .now) l (a .c .a) (a .firsts .now) firsts) (codes-are p) (m .find-matches .ensures .0))
+    (subst (λ (l : List ℕ). NextColumns l (a .nexts .now) nexts) (codes-are p) (m .find-matches .ensures .1))
+
+pub forward-spec : {M : Type 1} → statement M
+forward-spec =
+    tie.close
+    (tie.spec
+    (λ c κs. search needs)
+    array-share-prefix-codes
+    slice-aggregate-find-matches
+    find-matches-requires
+    (λ c. search needs)
+    (λ c. search needs)
+    returns)

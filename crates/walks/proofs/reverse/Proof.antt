@@ -1,0 +1,53 @@
+-- `walks::reverse` meets its contract: what stands in front of the array is the turned sequence, and it is matched as any other. Assumes nothing.
+use mathlib.Core.Path.{_≡_, sym, ap, subst, subst⁻¹, _∙_}
+use mathlib.Core.List.{List}
+use Prim.Native.Nat.{ℕ}
+use lib.ListN.{length, take}
+use Rattle.rules.specs.Letters.{reverseComplement}
+use Rattle.rules.specs.Strands.{onStrand}
+use Rattle.rules.proofs.Strands.{turned-length}
+use Rattle.walks.specs.Matched.{Fits, Matched}
+use Rattle.walks.proofs.Reversing.{turned-fits, turned-front}
+use borrow.Author.Needs.{needs}
+use Rattle.walks.proofs.reverse.Statement.{statement}
+use Rattle.walks.proofs.reverse.Tie as tie
+
+-- the place where the sequence is turned, and the start
+abbrev start : tie.After-reverse-complement → tie.Start
+start r = r .before .before .before .before .before .before
+
+-- what is matched is the turned sequence
+turned-is : (r : tie.After-reverse-complement)
+    → take (length (start r .args .second .now)) (r .reverse-complement .last .1 .0) ≡ reverseComplement (start r .args .second .now)
+turned-is r = turned-front (start r .args .second .now) _ _ (r .reverse-complement .ensures)
+
+slice-aggregate-forward : tie.Need-slice-aggregate-forward
+slice-aggregate-forward c = let r = c .before .before in sym (ap length (turned-is r) ∙ turned-length (start r .args .second .now))
+
+forward-requires : tie.Need-forward-requires
+forward-requires c κs =
+    let r = c .before .before .before .before in
+    let s = start r in
+    (subst⁻¹ (λ (l : List ℕ). Fits (s .args .c) (s .args .coded .now) l) (turned-is r) (turned-fits (s .pre .0)), s .pre .1)
+
+returns : tie.Need-returns
+unfolding onStrand
+returns c =
+    let m = c .before .before .before .before in
+    let r = m .before .before .before .before .before in
+    let s = start r in
+    subst (λ (l : List ℕ). Matched (s .args .c) (s .args .coded .now) l (m .forward .last .1 .1 .1 .0) (m .forward .last .1 .1 .1 .1 .0)
+    (length (s .args .coded .now))) (turned-is r) (m .forward .ensures)
+
+pub reverse-spec : {M : Type 1} → statement M
+reverse-spec =
+    tie.close
+    (tie.spec
+    (λ c. search needs)
+    (λ c κs. search needs)
+    (λ c. search needs)
+    slice-aggregate-forward
+    forward-requires
+    (λ c. search needs)
+    (λ c. search needs)
+    returns)

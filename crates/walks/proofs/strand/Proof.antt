@@ -1,0 +1,30 @@
+-- `walks::strand` meets its contract: an accepted strand is 0 or 1. Assumes nothing.
+use Rattle.walks.proofs.Reversing.{forward-strand, reverse-strand}
+use borrow.Author.Needs.{needs}
+use Rattle.walks.proofs.strand.Statement.{statement}
+use Rattle.walks.proofs.strand.Tie as tie
+
+returns : tie.Need-returns
+returns c =
+    let m = c .before .before .before .before in
+    forward-strand (m .before .before .before .if1 .taken) (m .forward .ensures)
+
+returns-2 : tie.Need-returns-2
+returns-2 c =
+    let m = c .before .before .before .before in
+    let q = m .before .before .before in
+    let s = q .before .before .before .before .before .before in
+    reverse-strand (s .pre .0) (q .if1 .left) (m .reverse .ensures)
+
+pub strand-spec : {M : Type 1} → statement M
+strand-spec =
+    tie.close
+    (tie.spec
+    (λ c κs. search needs)
+    (λ c. search needs)
+    (λ c. search needs)
+    returns
+    (λ c κs. search needs)
+    (λ c. search needs)
+    (λ c. search needs)
+    returns-2)

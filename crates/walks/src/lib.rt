@@ -1,0 +1,69 @@
+// From the codes of the first sequence and the letters of the second to the matches of each strand, as walks over columns: for each row the first column
+// it meets, for each column the next one with the same k-mer. Local arrays hold letters and codes, no records.
+use rules::Settings;
+ghost use lib.ListN.{length};
+ghost use Rattle.rules.specs.Strands.{onStrand};
+ghost use Rattle.walks.specs.Matched.{Fits, Blank, Matched, BothMatched};
+
+// The second sequence as it stands. A step a letter for its codes, and near as little for the matches.
+pub fn forward(c: Settings, coded: &[u64], second: &[u8], firsts: &mut [u32], nexts: &mut [u32])
+    requires { ⌜ Fits c (now coded) (now second) ⌝ }
+    requires { ⌜ Blank (now firsts) ⌝ }
+    requires { ⌜ Blank (now nexts) ⌝ }
+    ensures { λ _. ⌜ Matched c (now (coded .entry)) (now (second .entry)) (now (firsts .exit)) (now (nexts .exit)) (length (now (coded .entry))) ⌝ }
+{
+    let mut codes = [0u64; 16384];
+    let columns = kmers::code_all(second, c.k, &mut codes);
+    matches::find_matches(coded, &codes[..columns], c.a, firsts, nexts);
+}
+
+// And turned round.
+fn reverse(c: Settings, coded: &[u64], second: &[u8], firsts: &mut [u32], nexts: &mut [u32])
+    requires { ⌜ Fits c (now coded) (now second) ⌝ }
+    requires { ⌜ Blank (now firsts) ⌝ }
+    requires { ⌜ Blank (now nexts) ⌝ }
+    ensures { λ _. ⌜ Matched c (now (coded .entry)) (onStrand 1 (now (second .entry))) (now (firsts .exit)) (now (nexts .exit)) (length (now (coded .entry))) ⌝ }
+{
+    let mut turned = [0u8; 16384];
+    letters::reverse_complement(second, &mut turned);
+    forward(c, coded, &turned[..second.len()], firsts, nexts);
+}
+
+// The one strand that the settings of a stopped sweep name.
+pub fn strand(c: Settings, coded: &[u64], second: &[u8], firsts: &mut [u32], nexts: &mut [u32])
+    requires { ⌜ Fits c (now coded) (now second) ⌝ }
+    requires { ⌜ Blank (now firsts) ⌝ }
+    requires { ⌜ Blank (now nexts) ⌝ }
+    ensures { λ _. ⌜ Matched c (now (coded .entry)) (onStrand (c .strand) (now (second .entry))) (now (firsts .exit)) (now (nexts .exit)) (length (now (coded .entry))) ⌝ }
+{
+    if c.strand == 0 {
+        forward(c, coded, second, firsts, nexts);
+        return;
+    }
+    reverse(c, coded, second, firsts, nexts);
+}
+
+// The strands that the settings of a job name; returns how many rows the reverse strand has to walk, none where it is not asked for.
+pub fn both(
+    c: Settings,
+    coded: &[u64],
+    second: &[u8],
+    firsts: &mut [u32],
+    nexts: &mut [u32],
+    reverse_firsts: &mut [u32],
+    reverse_nexts: &mut [u32],
+) -> usize
+    requires { ⌜ Fits c (now coded) (now second) ⌝ }
+    requires { ⌜ Blank (now firsts) ⌝ }
+    requires { ⌜ Blank (now nexts) ⌝ }
+    requires { ⌜ Blank (now «reverse_firsts») ⌝ }
+    requires { ⌜ Blank (now «reverse_nexts») ⌝ }
+    ensures { λ r. ⌜ BothMatched c (now (coded .entry)) (now (second .entry)) (now (firsts .exit)) (now (nexts .exit)) (now («reverse_firsts» .exit)) (now («reverse_nexts» .exit)) r ⌝ }
+{
+    forward(c, coded, second, firsts, nexts);
+    if c.strand == 0 {
+        return 0;
+    }
+    reverse(c, coded, second, reverse_firsts, reverse_nexts);
+    coded.len()
+}
