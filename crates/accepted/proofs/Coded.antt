@@ -24,7 +24,8 @@ use Rattle.rules.proofs.Tests.{Three, below, equal, above, three}
 use Rattle.walks.specs.Matched.{codedMatch, codedMatches, reverseRows}
 use Rattle.strands.specs.Strands.{listingOf, entriesOf, largerOf}
 use Rattle.jobs.specs.Jobs.{comparedOf}
-use Rattle.stopping.specs.Stopping.{runOf, stoppedOf}
+use Rattle.sweep.specs.Sweeping.{runOf}
+use Rattle.stopping.specs.Stopping.{stoppedOf}
 use Rattle.accepted.specs.Coded.{comparedCoded, stoppedCoded, neededCoded}
 
 module _ (c : Settings) (s : List ℕ) where

@@ -1,10 +1,14 @@
 // The compare job once the matches of both strands are known: tallies, the room checks, the sweeps, and the rooms as they are left. No letters here.
 use rules::Answer;
 use rules::Settings;
-ghost use Prim.Native.Nat.{_≤_};
-ghost use Rattle.matches.specs.Walks.{WalkSafe};
+ghost use mathlib.Core.Path.{_≡_};
+ghost use Prim.Native.Nat.{_+_, _≤_};
+ghost use lib.ListN.{length};
+ghost use Rattle.matches.specs.Walks.{walked, WalkSafe};
+ghost use Rattle.rules.specs.Rooms.{pairs};
+ghost use Rattle.rules.specs.Answers.{left, finishing};
 ghost use Rattle.strands.specs.Strands.{Walked};
-ghost use Rattle.jobs.specs.Jobs.{Finishes, ComparesMatches};
+ghost use Rattle.jobs.specs.Jobs.{entriesIn, comparedOf};
 
 // The tallies of a job that is swept, but for its links.
 pub struct Tallies {
@@ -30,7 +34,7 @@ pub fn finish(
 ) -> Answer
     requires { ⌜ WalkSafe (now firsts) (now nexts) ⌝ }
     requires { ⌜ WalkSafe (now «reverse_firsts») (now «reverse_nexts») ⌝ }
-    ensures { λ r. ⌜ Finishes (now (firsts .entry)) (now (nexts .entry)) (now («reverse_firsts» .entry)) (now («reverse_nexts» .entry)) b tallies (now (work .entry)) (now (list .entry)) (now (work .exit)) (now (list .exit)) r ⌝ }
+    ensures { λ r. ⌜ left r (now (work .exit)) (now (list .exit)) ≡ finishing (entriesIn (tallies .listed) (now (list .entry))) (tallies .matches) (tallies .widest) (pairs b (walked (now (firsts .entry)) (now (nexts .entry))) + pairs b (walked (now («reverse_firsts» .entry)) (now («reverse_nexts» .entry)))) (now (work .entry)) (now (list .entry)) ⌝ }
 {
     let listed = tallies.listed;
     rooms::zero_all(work);
@@ -57,7 +61,7 @@ pub fn compare_matches(
     requires { ⌜ Walked (now firsts) (now nexts) c ⌝ }
     requires { ⌜ Walked (now «reverse_firsts») (now «reverse_nexts») c ⌝ }
     requires { ⌜ letters ≤ 16384 ⌝ }
-    ensures { λ r. ⌜ ComparesMatches (now (firsts .entry)) (now (nexts .entry)) (now («reverse_firsts» .entry)) (now («reverse_nexts» .entry)) c letters (now (work .entry)) (now (list .entry)) (now (work .exit)) (now (list .exit)) r ⌝ }
+    ensures { λ r. ⌜ left r (now (work .exit)) (now (list .exit)) ≡ comparedOf c letters (walked (now (firsts .entry)) (now (nexts .entry))) (length (now (firsts .entry))) (walked (now («reverse_firsts» .entry)) (now («reverse_nexts» .entry))) (length (now («reverse_firsts» .entry))) (now (work .entry)) (now (list .entry)) ⌝ }
 {
     let b = numbers::wide(c.b);
     let counts = strands::count_strands(firsts, nexts, reverse_firsts, reverse_nexts, b);

@@ -3,4 +3,3 @@ pub mod Pairs
 pub mod ColumnSums
 pub mod Releases
 pub mod Links
-pub mod Unique

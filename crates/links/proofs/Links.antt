@@ -20,8 +20,8 @@ use Rattle.rules.proofs.ListLaws.{count-length}
 use Rattle.rules.proofs.LeftExtensions.{extend-facts, facts-extend}
 use Rattle.rules.proofs.MatchList.{row-in, matches-in}
 use Rattle.rules.proofs.Sweeps.{matchedTo}
-use Rattle.matches.specs.Walks.{NextMatch, RowWalk, NextsSafe, Described}
-use Rattle.links.specs.Totals.{Linked}
+use Rattle.matches.specs.Walks.{NextMatch, RowWalk, walksTo, walkedTo, walked, NextsSafe, WalkSafe}
+use Rattle.matches.proofs.Walked.{safe-described}
 use Rattle.windows.specs.Windows.{windowSum}
 use Rattle.links.specs.Columns.{inColumn, ColumnCounts, Released, RowAdded}
 use Rattle.tally.proofs.Walks.{walk-step, walk-end}
@@ -174,38 +174,36 @@ module _ {nexts : List ℕ} {start b : ℕ} {old : List ℕ} {links : ℕ} where
 
 -- ---- the rows, one after the other
 
-pub record LinkAt (hit : Cell → Bool) (columns b p : ℕ) (counts : List ℕ) (links : ℕ) : Type 0 where
-  pub counted : ColumnCounts (matchesTo hit columns (p - b - 1)) (matchesTo hit columns p) counts
-  pub linked : links ≡ pairs b (matchesTo hit columns p)
-
 pub record LinkLoop (firsts nexts : List ℕ) (b : ℕ) (counts : List ℕ) (links p : ℕ) : Type 0 where
   pub inside : p ≤ length firsts
-  pub walked : (hit : Cell → Bool) (columns : ℕ) → Described hit columns firsts nexts → LinkAt hit columns b p counts links
+  pub counted : ColumnCounts (walkedTo firsts nexts (p - b - 1)) (walkedTo firsts nexts p) counts
+  pub linked : links ≡ pairs b (walkedTo firsts nexts p)
 
 module _ {firsts nexts : List ℕ} {b : ℕ} where
   pub link-start : (n : ℕ) → n ≡ 16385 → LinkLoop firsts nexts b (replicate n 0) 0 0
-  unfolding matchesTo pairs sumOf
+  unfolding walkedTo matchesTo pairs sumOf
   link-start n q =
       let e : 0 - b - 1 ≡ 0 = omega arith in
-      record {
-        inside = omega arith;
-        walked = λ hit columns d. record { counted = rw e (counts-none n q); linked = refl };
-      }
+      record { inside = omega arith; counted = rw e (counts-none n q); linked = refl }
 
   module _ {counts : List ℕ} {links p : ℕ} (v : LinkLoop firsts nexts b counts links p) where
-    pub link-next : length firsts ≤ 16384 → p < length firsts → {freed counts′ : List ℕ} {links′ : ℕ} → Released firsts nexts b p counts freed
+    pub link-next : WalkSafe firsts nexts → p < length firsts → {freed counts′ : List ℕ} {links′ : ℕ} → Released firsts nexts b p counts freed
         → RowAdded nexts (getD firsts p 0) b freed counts′ links links′ → LinkLoop firsts nexts b counts′ links′ (p + 1)
-    link-next few h {freed} {counts′} {links′} r a =
-        record { inside = omega arith; walked = λ hit columns d. rw add-one (turn hit columns d (v .walked hit columns d)) }
-      where
-        turn : (hit : Cell → Bool) (columns : ℕ) → Described hit columns firsts nexts → LinkAt hit columns b p counts links
-            → LinkAt hit columns b (suc p) counts′ links′
-        turn hit columns d s =
-            let e : p - b ≡ suc p - b - 1 = omega arith in
-            let q = a .exact hit p columns (d .rows p h) (omega arith) (d .narrow) (r .exact hit columns d (s .counted)) (s .linked) in
-            record { counted = subst (λ (m : ℕ). ColumnCounts (matchesTo hit columns m) (matchesTo hit columns (suc p)) counts′) e (q .0); linked = q .1 }
+    unfolding walkedTo
+    link-next safe h {freed} {counts′} {links′} r a =
+        let hit = walksTo firsts nexts in
+        let columns = length nexts in
+        let d = safe-described safe in
+        let e : p - b ≡ suc p - b - 1 = omega arith in
+        let q = a .exact hit p columns (d .rows p h) (omega (arith, safe .few-rows)) (d .narrow) (r .exact hit columns d (v .counted)) (v .linked) in
+        record {
+          inside = omega arith;
+          counted = rw add-one (subst (λ (m : ℕ). ColumnCounts (matchesTo hit columns m) (matchesTo hit columns (suc p)) counts′) e (q .0));
+          linked = rw add-one (q .1);
+        }
 
-    pub link-end : length firsts ≤ p → Linked firsts nexts b links
+    pub link-end : length firsts ≤ p → links ≡ pairs b (walked firsts nexts)
+    unfolding walked
     link-end h =
         let e : p ≡ length firsts = omega (arith, v .inside) in
-        record { exact = λ hit columns d. v .walked hit columns d .linked ∙ ap (λ (m : ℕ). pairs b (matchesTo hit columns m)) e }
+        v .linked ∙ ap (λ (m : ℕ). pairs b (walkedTo firsts nexts m)) e

@@ -1,3 +1,2 @@
--- The counts of columns that the link total is summed from, and what it is.
+-- The counts of columns that the link total is summed from.
 pub mod Columns
-pub mod Totals

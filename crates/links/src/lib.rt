@@ -1,11 +1,12 @@
 // The link total of a job, counted from its matches before any record is made: how many left extensions all matches have together.
 // Matches come as walks: row p + 1 begins in column firsts[p], and after column j comes column nexts[j - 1]; 0 ends a row.
+ghost use mathlib.Core.Path.{_≡_};
 ghost use Prim.Native.Nat.{_≤_, _<_};
 ghost use lib.ListN.{length};
-ghost use Rattle.matches.specs.Walks.{NextsSafe, WalkSafe};
+ghost use Rattle.rules.specs.Rooms.{pairs};
+ghost use Rattle.matches.specs.Walks.{walked, NextsSafe, WalkSafe};
 ghost use Rattle.windows.specs.Windows.{WindowHolds};
 ghost use Rattle.links.specs.Columns.{RowReleased, Released, RowAdded};
-ghost use Rattle.links.specs.Totals.{Linked};
 
 // Takes a row's matches off the counts of their columns, and off what the window of column `at` holds. One step a match.
 fn release_row(
@@ -97,7 +98,7 @@ fn add_row(
 // The link total: two steps a row and two a match, and for each match the columns that its window moves on. The array holds counts only, one for each column.
 pub fn count_links(firsts: &[u32], nexts: &[u32], b: usize) -> u64
     requires { ⌜ WalkSafe (now firsts) (now nexts) ⌝ }
-    ensures { λ r. ⌜ Linked (now (firsts .entry)) (now (nexts .entry)) b r ⌝ }
+    ensures { λ r. ⌜ r ≡ pairs b (walked (now (firsts .entry)) (now (nexts .entry))) ⌝ }
 {
     let mut counts = [0u32; 16385];
     let mut total: u64 = 0;

@@ -32,7 +32,7 @@ row-from hit i (suc m) lo =
     let shift : lo + suc m ≡ suc lo + m = omega arith in
     rw shift (row-from hit i m (suc lo) ∙ row-step (hit (cell i (suc lo))) (cell i (suc lo)) (rowTo hit i lo) (rowFrom hit i (suc lo) m))
 
-walk-zero : (nexts : List ℕ) (fuel : ℕ) → walk nexts fuel 0 ≡ []
+pub walk-zero : (nexts : List ℕ) (fuel : ℕ) → walk nexts fuel 0 ≡ []
 unfolding walk
 walk-zero nexts zero = refl
 walk-zero nexts (suc fuel) = refl

@@ -1,4 +1,3 @@
 pub mod Runs
 pub mod Holding
 pub mod Outcomes
-pub mod Unique

@@ -3,10 +3,13 @@ use predecessors::Ring;
 use rules::Answer;
 use rules::Settings;
 ghost use mathlib.Core.Path.{_≡_};
+ghost use mathlib.Core.List.{[]};
 ghost use Prim.Native.Nat.{_-_, _*_, _^_, _≤_, _<_};
 ghost use lib.ListN.{length};
+ghost use Rattle.matches.specs.Walks.{walked, walkedNeed};
+ghost use Rattle.rules.specs.Answers.{left};
 ghost use Rattle.strands.specs.Strands.{Walked};
-ghost use Rattle.stopping.specs.Stopping.{Holds, RingFrom, StopsMatches};
+ghost use Rattle.stopping.specs.Stopping.{stoppedOf, Holds, RingFrom};
 
 // A ring of so many slots in which record number `before` lies in slot 0.
 fn ring_from(size: usize, before: usize) -> Ring
@@ -47,7 +50,8 @@ fn hold(
     requires { ⌜ 8 * widest ≤ length (now work) ⌝ }
     requires { ⌜ widest < 2 ^ 32 ⌝ }
     requires { ⌜ row ≤ length (now firsts) ⌝ }
-    ensures { λ r. ⌜ Holds (now (firsts .entry)) (now (nexts .entry)) widest c row (now (work .entry)) (now (work .exit)) r ⌝ }
+    requires { ⌜ walkedNeed (c .b) (now firsts) (now nexts) ≤ widest ⌝ }
+    ensures { λ r. ⌜ Holds (now (firsts .entry)) (now (nexts .entry)) c row (now (work .entry)) (now (work .exit)) r ⌝ }
 {
     if widest == 0 {
         rooms::zero_all(work);
@@ -68,7 +72,7 @@ pub fn stop_matches(
     row: usize,
 ) -> Answer
     requires { ⌜ Walked (now firsts) (now nexts) c ⌝ }
-    ensures { λ r. ⌜ StopsMatches (now (firsts .entry)) (now (nexts .entry)) c row (now (work .entry)) (now (work .exit)) r ⌝ }
+    ensures { λ r. ⌜ left r (now (work .exit)) [] ≡ stoppedOf c (walked (now (firsts .entry)) (now (nexts .entry))) (length (now (firsts .entry))) (now (work .entry)) row ⌝ }
 {
     let b = numbers::wide(c.b);
     let counts = tally::count_matches(firsts, nexts, b);

@@ -1,6 +1,6 @@
 -- Entries of two strands in one list room: those of the reverse strand are listed behind the others as forward ones, and turned back where they stand.
 -- Assumes nothing.
-use mathlib.Core.Path.{_≡_, refl, sym, ap, ap₂, subst, subst⁻¹, _∙_}
+use mathlib.Core.Path.{_≡_, refl, sym, ap, ap₂, subst⁻¹, _∙_}
 use mathlib.Core.List.{List, [], _++_, map}
 use Prim.Native.Nat.{ℕ, _+_, _-_, _*_, _^_, _≤_, _<_, min}
 use native.Mathlib.Omega.{arith}
@@ -13,15 +13,16 @@ use Rattle.rules.specs.declared.Record.{Record}
 use Rattle.rules.specs.Lists.{keep, laid}
 use Rattle.rules.specs.Records.{recordsFrom}
 use Rattle.rules.specs.Listing.{entryNumbers}
-use Rattle.rules.specs.Rooms.{listHolds, largestRun}
+use Rattle.rules.specs.Rooms.{listHolds}
 use Rattle.rules.specs.Strands.{reverseNumbers, strandNumbers}
 use Rattle.rules.proofs.ListLaws.{laid-append, laid-map}
+use Rattle.matches.specs.Walks.{walked, walkedNeed}
 use Rattle.entries.specs.Layout.{turnEntries}
 use Rattle.entries.proofs.Turning.{reverse-size, turned-all}
 use Rattle.rooms.proofs.Rests.{rest-is, rest-back}
 use Rattle.listing.specs.Leaving.{ListedTo}
 use Rattle.sweep.specs.Sweeping.{SweepSafe, ListsAll}
-use Rattle.strands.specs.Strands.{listingOf, entriesOf, largerOf, Walked, Entered, ListsAs, ListsBoth}
+use Rattle.strands.specs.Strands.{listingOf, entriesOf, Walked, Entered, ListsAs, ListsBoth}
 use Rattle.strands.proofs.Needs.{none-needed}
 
 -- ---- one strand
@@ -39,16 +40,14 @@ sweep-safe firsts nexts work c slots w h s n =
     }
 
 -- without slots there is nothing to list
-pub lists-none : {firsts nexts list : List ℕ} {c : Settings} {slots : ℕ} → slots ≡ 0 → ListsAs (entryNumbers (c .k)) firsts nexts slots c list 0
+pub lists-none : {firsts nexts list : List ℕ} {c : Settings} {slots : ℕ} → slots ≡ 0 → walkedNeed (c .b) firsts nexts ≤ slots
+    → ListsAs (entryNumbers (c .k)) firsts nexts c list 0
 unfolding listingOf keep laid recordsFrom
-lists-none {firsts} {nexts} {list} {c} {slots} z =
+lists-none {firsts} {nexts} {list} {c} z h =
+    let none : walked firsts nexts ≡ [] = none-needed (c .b) firsts nexts (omega arith) in
     record {
       few = omega arith;
-      entered = λ cells w e.
-          let none : cells ≡ [] = w .all
-          ∙ none-needed (c .b) (w .hit) (w .columns) (length firsts)
-          (let d = ap (λ (l : List Cell). largestRun (c .b) l (length firsts)) (w .all) in omega arith) in
-          subst⁻¹ (λ (l : List Cell). Entered (map (entryNumbers (c .k)) (listingOf c l)) list 0) none (record { counted = refl; entries = λ h. refl });
+      entered = subst⁻¹ (λ (l : List Cell). Entered (map (entryNumbers (c .k)) (listingOf c l)) list 0) none (record { counted = refl; entries = λ g. refl });
     }
 
 -- what is listed, in numbers
@@ -61,36 +60,25 @@ entered-as {c} {cells} v =
       entries = λ h. v .entries h ∙ sym (laid-map (entryNumbers (c .k)) (λ entry. entry) (listingOf c cells));
     }
 
-pub lists-swept : {firsts nexts list : List ℕ} {c : Settings} {slots n : ℕ} → Walked firsts nexts c
-    → ListsAll firsts nexts (record { size = slots; origin = 0 }) c list n → ListsAs (entryNumbers (c .k)) firsts nexts slots c list n
-lists-swept {firsts} {nexts} {list} {c} {slots} {n} s a =
-    record {
-      few = (let f = a .few in let r = s .walks .few-rows in omega arith);
-      entered = λ cells w h.
-          let enough = subst (λ (l : List Cell). largestRun (c .b) l (length firsts) ≤ slots) (w .all) h in
-          subst⁻¹ (λ (l : List Cell). Entered (map (entryNumbers (c .k)) (listingOf c l)) list n) (w .all)
-          (entered-as (a .entered (w .hit) (w .columns) (record { described = w .described; enough = enough })));
-    }
+pub lists-swept : {firsts nexts list : List ℕ} {c : Settings} {n : ℕ} → Walked firsts nexts c
+    → ListsAll firsts nexts c list n → ListsAs (entryNumbers (c .k)) firsts nexts c list n
+lists-swept s a = record { few = (let f = a .few in let r = s .walks .few-rows in omega arith); entered = entered-as (a .entered) }
 
 -- ---- turned back
 
-module _ {firsts nexts list : List ℕ} {c : Settings} {slots n : ℕ} (letters : ℕ) (a : ListsAs (entryNumbers (c .k)) firsts nexts slots c list n) where
-  pub lists-short : listHolds list < n → ListsAs (reverseNumbers letters (c .k)) firsts nexts slots c list n
+module _ {firsts nexts list : List ℕ} {c : Settings} {n : ℕ} (letters : ℕ) (a : ListsAs (entryNumbers (c .k)) firsts nexts c list n) where
+  pub lists-short : listHolds list < n → ListsAs (reverseNumbers letters (c .k)) firsts nexts c list n
   unfolding listHolds
   lists-short h =
-      record {
-        few = a .few;
-        entered = λ cells w e.
-            let v = a .entered cells w e in
-            let sizes = length-map (listingOf c cells) (entryNumbers (c .k)) in
-            record { counted = v .counted ∙ sizes ∙ sym (length-map (listingOf c cells) (reverseNumbers letters (c .k))); entries = λ f. absurd (omega arith) };
-      }
+      let xs = listingOf c (walked firsts nexts) in
+      let sizes = length-map xs (entryNumbers (c .k)) ∙ sym (length-map xs (reverseNumbers letters (c .k))) in
+      record { few = a .few; entered = record { counted = a .entered .counted ∙ sizes; entries = λ f. absurd (omega arith) } }
 
   pub lists-turned : n ≤ listHolds list → {list′ : List ℕ} → list′ ≡ turnEntries letters list n
-      → ListsAs (reverseNumbers letters (c .k)) firsts nexts slots c list′ n
+      → ListsAs (reverseNumbers letters (c .k)) firsts nexts c list′ n
   unfolding listHolds
   lists-turned h {list′} el =
-      record { few = a .few; entered = λ cells w e. back (listingOf c cells) (a .entered cells w e) }
+      record { few = a .few; entered = back (listingOf c (walked firsts nexts)) (a .entered) }
     where
       back : (xs : List Record) → Entered (map (entryNumbers (c .k)) xs) list n → Entered (map (reverseNumbers letters (c .k)) xs) list′ n
       back xs v =
@@ -142,13 +130,9 @@ module _ (list rest : List ℕ) (at n : ℕ) (ea : at ≡ min (6 * n) (length li
           ∙ ap₂ (λ (x y : List ℕ). x ++ y) first (w .entries (omega (arith, rest-size)))
           ∙ sym (laid-append (λ (entry : List ℕ). entry) forward reverse)
 
-  pub lists-both : {m : ℕ} {firsts nexts reverse-firsts reverse-nexts : List ℕ} {slots letters : ℕ} {c : Settings}
-      → ListsAs (entryNumbers (c .k)) firsts nexts slots c list n
-      → ListsAs (reverseNumbers letters (c .k)) reverse-firsts reverse-nexts slots c rest m
-      → ListsBoth firsts nexts reverse-firsts reverse-nexts slots c letters whole (n + m)
-  unfolding entriesOf largerOf strandNumbers
-  lists-both a z =
-      record {
-        few = (let x = a .few in let y = z .few in omega arith);
-        entered = λ forward reverse w v e. both-in (a .entered forward w (omega arith)) (z .entered reverse v (omega arith));
-      }
+  pub lists-both : {m : ℕ} {firsts nexts reverse-firsts reverse-nexts : List ℕ} {letters : ℕ} {c : Settings}
+      → ListsAs (entryNumbers (c .k)) firsts nexts c list n
+      → ListsAs (reverseNumbers letters (c .k)) reverse-firsts reverse-nexts c rest m
+      → ListsBoth firsts nexts reverse-firsts reverse-nexts c letters whole (n + m)
+  unfolding entriesOf strandNumbers
+  lists-both a z = record { few = (let x = a .few in let y = z .few in omega arith); entered = both-in (a .entered) (z .entered) }

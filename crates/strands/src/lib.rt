@@ -3,12 +3,14 @@
 use predecessors::Ring;
 use rules::Settings;
 use tally::Counts;
-ghost use Prim.Native.Nat.{_*_, _^_, _≤_, _<_};
+ghost use mathlib.Core.Path.{_≡_};
+ghost use Prim.Native.Nat.{_+_, _*_, _^_, _≤_, _<_};
 ghost use lib.ListN.{length};
-ghost use Rattle.matches.specs.Walks.{WalkSafe};
+ghost use Rattle.matches.specs.Walks.{walked, walkedNeed, WalkSafe};
 ghost use Rattle.rules.specs.Listing.{entryNumbers};
+ghost use Rattle.rules.specs.Rooms.{pairs};
 ghost use Rattle.rules.specs.Strands.{reverseNumbers};
-ghost use Rattle.strands.specs.Strands.{Walked, CountsBoth, LinksBoth, ListsAs, ListsBoth};
+ghost use Rattle.strands.specs.Strands.{bothCounts, Walked, ListsAs, ListsBoth};
 
 // The matches of both strands together, and the larger need.
 pub fn count_strands(
@@ -20,7 +22,7 @@ pub fn count_strands(
 ) -> Counts
     requires { ⌜ WalkSafe (now firsts) (now nexts) ⌝ }
     requires { ⌜ WalkSafe (now «reverse_firsts») (now «reverse_nexts») ⌝ }
-    ensures { λ r. ⌜ CountsBoth (now (firsts .entry)) (now (nexts .entry)) (now («reverse_firsts» .entry)) (now («reverse_nexts» .entry)) b r ⌝ }
+    ensures { λ r. ⌜ r ≡ bothCounts b (walked (now (firsts .entry)) (now (nexts .entry))) (length (now (firsts .entry))) (walked (now («reverse_firsts» .entry)) (now («reverse_nexts» .entry))) (length (now («reverse_firsts» .entry))) ⌝ }
 {
     let forward = tally::count_matches(firsts, nexts, b);
     let reverse = tally::count_matches(reverse_firsts, reverse_nexts, b);
@@ -39,7 +41,7 @@ pub fn link_strands(
 ) -> u64
     requires { ⌜ WalkSafe (now firsts) (now nexts) ⌝ }
     requires { ⌜ WalkSafe (now «reverse_firsts») (now «reverse_nexts») ⌝ }
-    ensures { λ r. ⌜ LinksBoth (now (firsts .entry)) (now (nexts .entry)) (now («reverse_firsts» .entry)) (now («reverse_nexts» .entry)) b r ⌝ }
+    ensures { λ r. ⌜ r ≡ pairs b (walked (now (firsts .entry)) (now (nexts .entry))) + pairs b (walked (now («reverse_firsts» .entry)) (now («reverse_nexts» .entry))) ⌝ }
 {
     let forward = links::count_links(firsts, nexts, b);
     let reverse = links::count_links(reverse_firsts, reverse_nexts, b);
@@ -59,7 +61,8 @@ fn list_strand(
     requires { ⌜ Walked (now firsts) (now nexts) c ⌝ }
     requires { ⌜ 8 * slots ≤ length (now work) ⌝ }
     requires { ⌜ slots < 2 ^ 32 ⌝ }
-    ensures { λ r. ⌜ ListsAs (entryNumbers (c .k)) (now (firsts .entry)) (now (nexts .entry)) slots c (now (list .exit)) r ⌝ }
+    requires { ⌜ walkedNeed (c .b) (now firsts) (now nexts) ≤ slots ⌝ }
+    ensures { λ r. ⌜ ListsAs (entryNumbers (c .k)) (now (firsts .entry)) (now (nexts .entry)) c (now (list .exit)) r ⌝ }
 {
     if slots == 0 {
         return 0;
@@ -85,7 +88,8 @@ fn list_turned(
     requires { ⌜ 8 * slots ≤ length (now work) ⌝ }
     requires { ⌜ slots < 2 ^ 32 ⌝ }
     requires { ⌜ letters ≤ 16384 ⌝ }
-    ensures { λ r. ⌜ ListsAs (reverseNumbers letters (c .k)) (now (firsts .entry)) (now (nexts .entry)) slots c (now (list .exit)) r ⌝ }
+    requires { ⌜ walkedNeed (c .b) (now firsts) (now nexts) ≤ slots ⌝ }
+    ensures { λ r. ⌜ ListsAs (reverseNumbers letters (c .k)) (now (firsts .entry)) (now (nexts .entry)) c (now (list .exit)) r ⌝ }
 {
     let count = list_strand(firsts, nexts, slots, c, work, list);
     if count <= rooms::entry_count(list) {
@@ -94,7 +98,7 @@ fn list_turned(
     count
 }
 
-// Lists the forward strand, and the reverse strand behind it; returns how many entries there are. The second sequence has so many letters.
+// Lists the forward strand, and the reverse strand behind it, over slots for the larger need; returns how many entries there are. The second sequence has so many letters.
 pub fn list_strands(
     firsts: &[u32],
     nexts: &[u32],
@@ -111,7 +115,9 @@ pub fn list_strands(
     requires { ⌜ 8 * slots ≤ length (now work) ⌝ }
     requires { ⌜ slots < 2 ^ 32 ⌝ }
     requires { ⌜ letters ≤ 16384 ⌝ }
-    ensures { λ r. ⌜ ListsBoth (now (firsts .entry)) (now (nexts .entry)) (now («reverse_firsts» .entry)) (now («reverse_nexts» .entry)) slots c letters (now (list .exit)) r ⌝ }
+    requires { ⌜ walkedNeed (c .b) (now firsts) (now nexts) ≤ slots ⌝ }
+    requires { ⌜ walkedNeed (c .b) (now «reverse_firsts») (now «reverse_nexts») ≤ slots ⌝ }
+    ensures { λ r. ⌜ ListsBoth (now (firsts .entry)) (now (nexts .entry)) (now («reverse_firsts» .entry)) (now («reverse_nexts» .entry)) c letters (now (list .exit)) r ⌝ }
 {
     let forward = list_strand(firsts, nexts, slots, c, work, list);
     let at = rooms::entries_end(list, forward);

@@ -19,6 +19,8 @@ use Rattle.rules.proofs.Tests.{tests, Three, below, equal, above, three}
 use Rattle.rules.proofs.ListLaws.{zeros-at, mem-at, keep-rest, laid-length, laid-at}
 use Rattle.rules.proofs.MatchList.{matches-in}
 use Rattle.rules.proofs.Sweeps.{sweptTo, swept-all, matches-split}
+use Rattle.matches.specs.Walks.{walksTo, walkedTo, walked, walkedNeed, WalkSafe}
+use Rattle.matches.proofs.Walked.{safe-described}
 use Rattle.predecessors.specs.declared.Ring.{Ring}
 use Rattle.predecessors.specs.Numbers.{RingFits, slotOf, nothing, nth}
 use Rattle.predecessors.proofs.Steps.{mem-nth, nth-mem}
@@ -28,13 +30,19 @@ use Rattle.listing.specs.declared.Released.{Released}
 use Rattle.listing.specs.Leaving.{ListedTo, ReleaseSafe, ReleaseDone}
 use Rattle.sweep.specs.declared.Swept.{Swept}
 use Rattle.sweep.specs.Latest.{NoneLatest}
-use Rattle.sweep.specs.Sweeping.{SweepSafe, Describes, SweepDone, ListsAll, HoldsRun}
+use Rattle.sweep.specs.Sweeping.{SweepSafe, Describes, SweepDone, ListsAll, runOf, HoldsRun}
 use Rattle.sweep.proofs.Parts.{old-row}
 use Rattle.sweep.proofs.Sweeping.{release-asks, cells-of}
 
 -- no column has a record at first
 pub none-latest : NoneLatest (replicate 16385 0)
 none-latest = record { wide = length-replicate {A = ℕ} 16385 0; empty = zeros-at 16385 }
+
+-- the matches that the walks come to are described, and a ring of W slots has room for them
+described-room : {firsts nexts : List ℕ} {b : ℕ} {ring : Ring} → WalkSafe firsts nexts → walkedNeed b firsts nexts ≤ ring .size
+    → Describes (walksTo firsts nexts) (length nexts) firsts nexts b ring
+unfolding walkedNeed walked walkedTo
+described-room w h = record { described = safe-described w; enough = h }
 
 -- ---- the whole listing
 
@@ -49,27 +57,30 @@ module _ {firsts nexts room₀ : List ℕ} {ring : Ring} {c : Settings} (s : Swe
       record { fits = s .fits; room-for = omega arith; few = omega arith; order = d .order; entries = d .entries; some-base = s .some-base }
 
   -- and once every row below (rows + b + 1) - b is released, none is left
-  pub lists-all : {last : ℕ} → last ≡ length firsts + c .b + 1 → {list′ : List ℕ} {r : Released}
+  pub lists-all : walkedNeed (c .b) firsts nexts ≤ ring .size → {last : ℕ} → last ≡ length firsts + c .b + 1 → {list′ : List ℕ} {r : Released}
       → ReleaseDone c last room latest ring (w .tail) (w .head) list (w .listed) list′ r
-      → ListsAll firsts nexts ring c list′ (r .listed)
-  lists-all {last} el {list′} {r} e = record { few = (let a = e .few in let b = e .to in let f = d .few in omega arith); entered = go }
-    where
-      go : (hit : Cell → Bool) (columns : ℕ) → Describes hit columns firsts nexts (c .b) ring
-          → ListedTo c (matchesTo hit columns (length firsts)) (recordsFrom (c .b) [] (matchesTo hit columns (length firsts))) list′ (r .listed)
-      go hit columns a =
-          let all = sweptTo (c .b) hit columns (length firsts) 0 in
-          let cells = matchesTo hit columns (length firsts) in
-          let asks = release-asks c hit columns (length firsts) ring (a .described .narrow) (s .walks .few-rows) (s .few-bases)
-          (length firsts) last room latest (w .tail) (w .head)
-          (d .machine hit columns a) (d .counted hit columns a) (omega arith) (omega arith) (λ y p q. p) in
-          let m = e .released (length firsts) all cells asks in
-          let none : ¬ (r .tail < length all) = λ l.
-          (let k = m .kept (r .tail) (omega arith) l in
-          let o = old-row (c .b) hit columns (length firsts) (r .tail) l in
-          omega arith) in
-          let whole : take (r .tail) all ≡ all = take-all (r .tail) all (omega arith) in
-          subst (λ (l : List Record). ListedTo c cells l list′ (r .listed)) (whole ∙ swept-all (c .b) hit columns (length firsts))
-          (e .entered (length firsts) all cells asks (d .entered hit columns a))
+      → ListsAll firsts nexts c list′ (r .listed)
+  unfolding walked walkedTo
+  lists-all enough {last} el {list′} {r} e =
+      let hit = walksTo firsts nexts in
+      let columns = length nexts in
+      let a = described-room (s .walks) enough in
+      let all = sweptTo (c .b) hit columns (length firsts) 0 in
+      let cells = matchesTo hit columns (length firsts) in
+      let asks = release-asks c hit columns (length firsts) ring (a .described .narrow) (s .walks .few-rows) (s .few-bases)
+      (length firsts) last room latest (w .tail) (w .head)
+      (d .machine hit columns a) (d .counted hit columns a) (omega arith) (omega arith) (λ y p q. p) in
+      let m = e .released (length firsts) all cells asks in
+      let none : ¬ (r .tail < length all) = λ l.
+      (let k = m .kept (r .tail) (omega arith) l in
+      let o = old-row (c .b) hit columns (length firsts) (r .tail) l in
+      omega arith) in
+      let whole : take (r .tail) all ≡ all = take-all (r .tail) all (omega arith) in
+      record {
+        few = (let g = e .few in let t = e .to in let f = d .few in omega arith);
+        entered = subst (λ (l : List Record). ListedTo c cells l list′ (r .listed)) (whole ∙ swept-all (c .b) hit columns (length firsts))
+            (e .entered (length firsts) all cells asks (d .entered hit columns a));
+      }
 
 -- ---- the last row's run
 
@@ -202,37 +213,34 @@ module _ (c : Settings) (hit : Cell → Bool) (columns rows : ℕ) (ring : Ring)
           ∙ sym (laid-at recordNumbers 8 record-size (drop tail all) q r nothing (omega arith) hr)
           ∙ ap (λ (t : ℕ). getD (laid recordNumbers (drop tail all)) t 0) (sym ei)
 
-pub holds-run : {firsts nexts room₀ : List ℕ} {ring : Ring} {c : Settings} → SweepSafe firsts nexts room₀ ring c → {room latest list : List ℕ} {w : Swept}
+pub holds-run : {firsts nexts room₀ : List ℕ} {ring : Ring} {c : Settings} → SweepSafe firsts nexts room₀ ring c → walkedNeed (c .b) firsts nexts ≤ ring .size
+    → slotOf ring (length (walkedTo firsts nexts (length firsts - c .b - 1))) ≡ 0 → {room latest list : List ℕ} {w : Swept}
     → SweepDone firsts nexts ring c room latest list w → length room ≡ length room₀ → {room′ : List ℕ}
     → room′ ≡ take (8 * (w .head - w .tail)) room ++ replicate (length room - 8 * (w .head - w .tail)) 0
-    → HoldsRun firsts nexts ring c room₀ room′ (w .head - w .tail)
-unfolding thenZeros
-holds-run {firsts} {nexts} {room₀} {ring} {c} s {room} {latest} {list} {w} d el {room′} er = record { held = go }
-  where
-    go : (hit : Cell → Bool) (columns : ℕ) → Describes hit columns firsts nexts (c .b) ring
-        → slotOf ring (length (matchesTo hit columns (length firsts - c .b - 1))) ≡ 0
-        → (w .head - w .tail ≡ length (keep (λ x. inRun (c .b) (length firsts) (x .cell)) (recordsFrom (c .b) [] (matchesTo hit columns (length firsts)))))
-        × (room′ ≡ thenZeros (laid recordNumbers
-        (keep (λ x. inRun (c .b) (length firsts) (x .cell)) (recordsFrom (c .b) [] (matchesTo hit columns (length firsts))))) (length room₀))
-    go hit columns a z =
-        let rows = length firsts in
-        let all = sweptTo (c .b) hit columns (length firsts) 0 in
-        let m = d .machine hit columns a in
-        let n = d .counted hit columns a in
-        let t = tail-is c hit columns (length firsts) ring (a .described .narrow) (s .walks .few-rows) (s .few-bases) room latest (w .tail) m in
-        let zero : slotOf ring (w .tail) ≡ 0 = ap (slotOf ring) t ∙ z in
-        let run : keep (λ x. inRun (c .b) (length firsts) (x .cell)) (recordsFrom (c .b) [] (matchesTo hit columns (length firsts))) ≡ drop (w .tail) all =
-        ap (keep (λ (x : Record). inRun (c .b) (length firsts) (x .cell))) (sym (swept-all (c .b) hit columns (length firsts)))
-        ∙ run-is c hit columns (length firsts) ring (a .described .narrow) (s .walks .few-rows) (s .few-bases) room latest (w .tail) m in
-        let lies = run-lies c hit columns (length firsts) ring (a .described .narrow) (s .walks .few-rows) (s .few-bases) room latest (w .tail) m (s .fits)
-        (rw el (s .room-for)) zero in
-        let k : length all - w .tail ≡ w .head - w .tail = ap (λ (q : ℕ). q - w .tail) n in
-        let front : take (8 * (w .head - w .tail)) room ≡ laid recordNumbers (drop (w .tail) all) = ap (λ (q : ℕ). take (8 * q) room) (sym k) ∙ lies in
-        let ll = laid-length recordNumbers 8 record-size (drop (w .tail) all) in
-        let ld = length-drop (w .tail) all in
-        let rest : length room - 8 * (w .head - w .tail) ≡ length room₀ - length (laid recordNumbers (drop (w .tail) all)) = omega arith in
-        rw run (
-          sym k ∙ sym ld,
-          er ∙ ap (λ (l : List ℕ). l ++ replicate (length room - 8 * (w .head - w .tail)) 0) front
-              ∙ ap (λ (q : ℕ). laid recordNumbers (drop (w .tail) all) ++ replicate q 0) rest,
-        )
+    → HoldsRun firsts nexts c room₀ room′ (w .head - w .tail)
+unfolding thenZeros runOf walked walkedTo
+holds-run {firsts} {nexts} {room₀} {ring} {c} s enough z {room} {latest} {list} {w} d el {room′} er =
+    let hit = walksTo firsts nexts in
+    let columns = length nexts in
+    let rows = length firsts in
+    let a = described-room (s .walks) enough in
+    let all = sweptTo (c .b) hit columns rows 0 in
+    let m = d .machine hit columns a in
+    let n = d .counted hit columns a in
+    let t = tail-is c hit columns rows ring (a .described .narrow) (s .walks .few-rows) (s .few-bases) room latest (w .tail) m in
+    let zero : slotOf ring (w .tail) ≡ 0 = ap (slotOf ring) t ∙ z in
+    let run : keep (λ x. inRun (c .b) rows (x .cell)) (recordsFrom (c .b) [] (matchesTo hit columns rows)) ≡ drop (w .tail) all =
+    ap (keep (λ (x : Record). inRun (c .b) rows (x .cell))) (sym (swept-all (c .b) hit columns rows))
+    ∙ run-is c hit columns rows ring (a .described .narrow) (s .walks .few-rows) (s .few-bases) room latest (w .tail) m in
+    let lies = run-lies c hit columns rows ring (a .described .narrow) (s .walks .few-rows) (s .few-bases) room latest (w .tail) m (s .fits)
+    (rw el (s .room-for)) zero in
+    let k : length all - w .tail ≡ w .head - w .tail = ap (λ (q : ℕ). q - w .tail) n in
+    let front : take (8 * (w .head - w .tail)) room ≡ laid recordNumbers (drop (w .tail) all) = ap (λ (q : ℕ). take (8 * q) room) (sym k) ∙ lies in
+    let ll = laid-length recordNumbers 8 record-size (drop (w .tail) all) in
+    let ld = length-drop (w .tail) all in
+    let rest : length room - 8 * (w .head - w .tail) ≡ length room₀ - length (laid recordNumbers (drop (w .tail) all)) = omega arith in
+    record {
+      counted = rw run (sym k ∙ sym ld);
+      held = rw run (er ∙ ap (λ (l : List ℕ). l ++ replicate (length room - 8 * (w .head - w .tail)) 0) front
+          ∙ ap (λ (q : ℕ). laid recordNumbers (drop (w .tail) all) ++ replicate q 0) rest);
+    }

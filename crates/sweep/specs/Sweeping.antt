@@ -1,4 +1,4 @@
--- The whole sweep: what it asks, and what it leaves for every test of matches that the rows' columns describe. Assumes nothing.
+-- The whole sweep: what it asks, and what it leaves. Assumes nothing.
 use mathlib.Core.Path.{_≡_}
 use mathlib.Core.Bool.{Bool, cond, not, _&&_}
 use mathlib.Core.List.{List, []}
@@ -7,14 +7,15 @@ use lib.Dec.{eqb, ltb}
 use lib.ListN.{length, getD, take}
 use Rattle.rules.specs.declared.Settings.{Settings}
 use Rattle.rules.specs.declared.Cell.{Cell}
+use Rattle.rules.specs.declared.Record.{Record}
 use Rattle.rules.specs.Lists.{keep, laid, thenZeros}
 use Rattle.rules.specs.Matches.{matchesTo}
 use Rattle.rules.specs.Records.{recordsFrom}
 use Rattle.rules.specs.Rooms.{recordNumbers, inRun, largestRun}
 use Rattle.rules.proofs.Sweeps.{sweptTo}
-use Rattle.matches.specs.Walks.{WalkSafe, Described}
+use Rattle.matches.specs.Walks.{walked, WalkSafe, Described}
 use Rattle.predecessors.specs.declared.Ring.{Ring}
-use Rattle.predecessors.specs.Numbers.{RingFits, slotOf}
+use Rattle.predecessors.specs.Numbers.{RingFits}
 use Rattle.rows.specs.Machine.{Machine}
 use Rattle.listing.specs.Leaving.{ListedTo}
 use Rattle.sweep.specs.declared.Swept.{Swept}
@@ -36,7 +37,7 @@ pub record SweepSafe (firsts nexts room : List ℕ) (ring : Ring) (c : Settings)
   pub some-base : 1 ≤ c .k
   pub few-bases : c .k ≤ 31
 
--- a test of matches that firsts and nexts describe, for which the ring has room: at least W records
+-- a test of matches that firsts and nexts describe, as the matches that the walks come to are, for which the ring has room: at least W records
 pub record Describes (hit : Cell → Bool) (columns : ℕ) (firsts nexts : List ℕ) (b : ℕ) (ring : Ring) : Type 0 where
   pub described : Described hit columns firsts nexts
   pub enough : largestRun b (matchesTo hit columns (length firsts)) (length firsts) ≤ ring .size
@@ -53,14 +54,15 @@ pub record SweepDone (firsts nexts : List ℕ) (ring : Ring) (c : Settings) (roo
       → ListedTo c (matchesTo hit columns (length firsts)) (take (r .tail) (sweptTo (c .b) hit columns (length firsts) 0)) list′ (r .listed)
 
 -- the whole listing: so many entries, at the front of the list room where it holds them all
-pub record ListsAll (firsts nexts : List ℕ) (ring : Ring) (c : Settings) (list′ : List ℕ) (n : ℕ) : Type 0 where
+pub record ListsAll (firsts nexts : List ℕ) (c : Settings) (list′ : List ℕ) (n : ℕ) : Type 0 where
   pub few : n ≤ length firsts * 16384
-  pub entered : (hit : Cell → Bool) (columns : ℕ) → Describes hit columns firsts nexts (c .b) ring
-      → ListedTo c (matchesTo hit columns (length firsts)) (recordsFrom (c .b) [] (matchesTo hit columns (length firsts))) list′ n
+  pub entered : ListedTo c (walked firsts nexts) (recordsFrom (c .b) [] (walked firsts nexts)) list′ n
 
--- the run of the last row: so many records, from the front of the room, and zeros after them, where the ring begins so that the run begins in slot 0
-pub record HoldsRun (firsts nexts : List ℕ) (ring : Ring) (c : Settings) (room room′ : List ℕ) (n : ℕ) : Type 0 where
-  pub held : (hit : Cell → Bool) (columns : ℕ) → Describes hit columns firsts nexts (c .b) ring
-      → slotOf ring (length (matchesTo hit columns (length firsts - c .b - 1))) ≡ 0
-      → (n ≡ length (keep (λ x. inRun (c .b) (length firsts) (x .cell)) (recordsFrom (c .b) [] (matchesTo hit columns (length firsts)))))
-      × (room′ ≡ thenZeros (laid recordNumbers (keep (λ x. inRun (c .b) (length firsts) (x .cell)) (recordsFrom (c .b) [] (matchesTo hit columns (length firsts))))) (length room))
+-- the records of the run of row r
+unfoldable pub runOf : Settings → List Cell → ℕ → List Record
+runOf c cells r = keep (λ x. inRun (c .b) r (x .cell)) (recordsFrom (c .b) [] cells)
+
+-- the run of the last row: so many records, from the front of the room, and zeros after them
+pub record HoldsRun (firsts nexts : List ℕ) (c : Settings) (room room′ : List ℕ) (n : ℕ) : Type 0 where
+  pub counted : n ≡ length (runOf c (walked firsts nexts) (length firsts))
+  pub held : room′ ≡ thenZeros (laid recordNumbers (runOf c (walked firsts nexts) (length firsts))) (length room)

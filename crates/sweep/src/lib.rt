@@ -2,8 +2,10 @@
 use predecessors::Ring;
 use rules::Settings;
 ghost use mathlib.Core.Path.{_≡_};
-ghost use Prim.Native.Nat.{_<_};
+ghost use Prim.Native.Nat.{_-_, _<_, _≤_};
 ghost use lib.ListN.{length};
+ghost use Rattle.matches.specs.Walks.{walkedTo, walkedNeed};
+ghost use Rattle.predecessors.specs.Numbers.{slotOf};
 ghost use Rattle.sweep.specs.Sweeping.{laterFrom, leavesAt, SweepSafe, SweepDone, ListsAll, HoldsRun};
 ghost use Rattle.sweep.specs.Latest.{NoneLatest};
 
@@ -72,7 +74,7 @@ fn sweep(
     Swept { tail, head, listed }
 }
 
-// Sweeps all rows and releases them all; returns how many entries there are, also where the list room is too short for them.
+// Sweeps all rows over a ring of at least W slots and releases them all; returns how many entries there are, also where the list room is too short for them.
 pub fn list_all(
     firsts: &[u32],
     nexts: &[u32],
@@ -82,7 +84,8 @@ pub fn list_all(
     list: &mut [u32],
 ) -> usize
     requires { ⌜ SweepSafe (now firsts) (now nexts) (now room) ring c ⌝ }
-    ensures { λ r. ⌜ ListsAll (now (firsts .entry)) (now (nexts .entry)) ring c (now (list .exit)) r ⌝ }
+    requires { ⌜ walkedNeed (c .b) (now firsts) (now nexts) ≤ ring .size ⌝ }
+    ensures { λ r. ⌜ ListsAll (now (firsts .entry)) (now (nexts .entry)) c (now (list .exit)) r ⌝ }
 {
     // one more than the running number of each column's latest record: numbers, and no records
     let mut latest = [0u32; 16385];
@@ -102,10 +105,13 @@ pub fn list_all(
     released.listed
 }
 
-// Sweeps all rows and leaves the run of the last one in the room, zeros after it; returns how many records it holds.
+// Sweeps all rows over a ring of at least W slots, in which the run of the last one begins in slot 0, and leaves it there, zeros after it; returns how
+// many records it holds.
 pub fn hold_run(firsts: &[u32], nexts: &[u32], room: &mut [u32], ring: Ring, c: Settings) -> usize
     requires { ⌜ SweepSafe (now firsts) (now nexts) (now room) ring c ⌝ }
-    ensures { λ r. ⌜ HoldsRun (now (firsts .entry)) (now (nexts .entry)) ring c (now (room .entry)) (now (room .exit)) r ⌝ }
+    requires { ⌜ walkedNeed (c .b) (now firsts) (now nexts) ≤ ring .size ⌝ }
+    requires { ⌜ slotOf ring (length (walkedTo (now firsts) (now nexts) (length (now firsts) - c .b - 1))) ≡ 0 ⌝ }
+    ensures { λ r. ⌜ HoldsRun (now (firsts .entry)) (now (nexts .entry)) c (now (room .entry)) (now (room .exit)) r ⌝ }
 {
     // numbers, and no records, as above
     let mut latest = [0u32; 16385];

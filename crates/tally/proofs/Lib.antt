@@ -3,4 +3,3 @@ pub mod RowSizes
 pub mod Counting
 pub mod MatchedRows
 pub mod Runs
-pub mod Unique

@@ -1,15 +1,16 @@
 // Two tallies of a job, counted from its matches before any record is made: the number of matches, and the most in a run of rows.
 // Matches come as walks: row p + 1 begins in column firsts[p], and after column j comes column nexts[j - 1]; 0 ends a row.
-ghost use Prim.Native.Nat.{_≤_, _<_};
+ghost use mathlib.Core.Path.{_≡_};
+ghost use Prim.Native.Nat.{_+_, _-_, _≤_, _<_};
 ghost use lib.ListN.{length};
-ghost use Rattle.tally.specs.Tallies.{RowSized, MatchedBefore, Leaves, Counted};
-ghost use Rattle.matches.specs.Walks.{NextsSafe, WalkSafe};
+ghost use Rattle.tally.specs.Tallies.{countsOf};
+ghost use Rattle.matches.specs.Walks.{rowFrom, walkedTo, walked, NextsSafe, WalkSafe};
 
 // How many matches a row has that begins in column start. One step a match.
 pub fn row_size(nexts: &[u32], start: usize) -> usize
     requires { ⌜ NextsSafe (now nexts) ⌝ }
     requires { ⌜ start ≤ length (now nexts) ⌝ }
-    ensures { λ r. ⌜ RowSized (now (nexts .entry)) start r ⌝ }
+    ensures { λ r. ⌜ r ≡ length (rowFrom (now (nexts .entry)) start) ⌝ }
 {
     let mut size: usize = 0;
     let mut j = start;
@@ -24,7 +25,7 @@ pub fn row_size(nexts: &[u32], start: usize) -> usize
 pub fn matches_before(firsts: &[u32], nexts: &[u32], rows: usize) -> usize
     requires { ⌜ WalkSafe (now firsts) (now nexts) ⌝ }
     requires { ⌜ rows ≤ length (now firsts) ⌝ }
-    ensures { λ r. ⌜ MatchedBefore (now (firsts .entry)) (now (nexts .entry)) rows r ⌝ }
+    ensures { λ r. ⌜ r ≡ length (walkedTo (now (firsts .entry)) (now (nexts .entry)) rows) ⌝ }
 {
     let mut matches: usize = 0;
     let mut p: usize = 0;
@@ -39,7 +40,7 @@ pub fn matches_before(firsts: &[u32], nexts: &[u32], rows: usize) -> usize
 fn leaving(firsts: &[u32], nexts: &[u32], b: usize, p: usize) -> usize
     requires { ⌜ WalkSafe (now firsts) (now nexts) ⌝ }
     requires { ⌜ p < length (now firsts) ⌝ }
-    ensures { λ r. ⌜ Leaves (now (firsts .entry)) (now (nexts .entry)) b p r ⌝ }
+    ensures { λ r. ⌜ length (walkedTo (now (firsts .entry)) (now (nexts .entry)) (p - b - 1)) + r ≡ length (walkedTo (now (firsts .entry)) (now (nexts .entry)) (p - b)) ⌝ }
 {
     if p <= b {
         return 0;
@@ -57,7 +58,7 @@ pub struct Counts {
 // M and W. A row's matches are walked when it enters the run and again when it leaves: two steps a row and two a match.
 pub fn count_matches(firsts: &[u32], nexts: &[u32], b: usize) -> Counts
     requires { ⌜ WalkSafe (now firsts) (now nexts) ⌝ }
-    ensures { λ r. ⌜ Counted (now (firsts .entry)) (now (nexts .entry)) b r ⌝ }
+    ensures { λ r. ⌜ r ≡ countsOf b (walked (now (firsts .entry)) (now (nexts .entry))) (length (now (firsts .entry))) ⌝ }
 {
     let mut matches: usize = 0;
     let mut run: usize = 0;

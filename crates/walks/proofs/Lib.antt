@@ -1,2 +1,3 @@
+pub mod Turning
 pub mod Matching
-pub mod Reversing
+pub mod Unique

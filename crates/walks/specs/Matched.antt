@@ -1,17 +1,18 @@
--- The matches of a job whose first sequence is given by its codes, and walks over columns that come to them. Assumes nothing.
+-- The matches of a job whose first sequence is given by its codes, and the columns of its rows. Assumes nothing.
 use mathlib.Core.Path.{_≡_}
 use mathlib.Core.Bool.{Bool, cond}
 use mathlib.Core.List.{List}
 use Prim.Native.Nat.{ℕ, _≤_}
 use lib.Dec.{eqb}
-use lib.ListN.{length, getD, take}
+use lib.ListN.{length}
 use Rattle.rules.specs.declared.Settings.{Settings}
 use Rattle.rules.specs.Places.{places}
 use Rattle.rules.specs.declared.Cell.{Cell}
 use Rattle.rules.specs.Matches.{matchesTo}
 use Rattle.rules.specs.Codes.{codes, codeMatch}
 use Rattle.rules.specs.Strands.{onStrand}
-use Rattle.matches.specs.Walks.{WalkSafe, Described}
+use Rattle.nexts.specs.Nexts.{NextColumns}
+use Rattle.matches.specs.Columns.{FirstColumns}
 
 -- what is a match, with the codes of the first sequence and the letters of the second
 unfoldable pub codedMatch : Settings → List ℕ → List ℕ → Cell → Bool
@@ -37,20 +38,15 @@ pub record Fits (c : Settings) (coded second : List ℕ) : Type 0 where
   pub few-rows : length coded ≤ 16384
   pub short-second : length second ≤ 16384
 
--- as many zeros as a sequence can have places
-pub record Blank (l : List ℕ) : Type 0 where
-  pub long : length l ≡ 16384
-  pub empty : (p : ℕ) → getD l p 0 ≡ 0
+-- the first column of every row and the next of every column; behind them all is as it was
+pub record Columns (c : Settings) (coded second firsts₀ nexts₀ firsts nexts : List ℕ) : Type 0 where
+  pub first : FirstColumns coded (codes (c .k) second) (c .a) firsts₀ firsts
+  pub next : NextColumns (codes (c .k) second) nexts₀ nexts
 
--- the numbers of so many rows and of the columns describe the matches, and can be walked
-pub record Matched (c : Settings) (coded second firsts nexts : List ℕ) (rows : ℕ) : Type 0 where
-  pub long : length firsts ≡ 16384
-  pub wide : length nexts ≡ 16384
-  pub safe : WalkSafe (take rows firsts) nexts
-  pub described : Described (codedMatch c coded second) (places (c .k) second) (take rows firsts) nexts
-
--- on both strands: all rows of the forward strand, and those that the reverse strand has
-pub record BothMatched (c : Settings) (coded second firsts nexts reverse-firsts reverse-nexts : List ℕ) (rows : ℕ) : Type 0 where
-  pub forward : Matched c coded second firsts nexts (length coded)
+-- on both strands: all rows of the forward strand, and those that the reverse strand has; where it is not asked for, its numbers are as they were
+pub record BothColumns (c : Settings) (coded second firsts₀ nexts₀ reverse-firsts₀ reverse-nexts₀ firsts nexts reverse-firsts reverse-nexts : List ℕ)
+    (rows : ℕ) : Type 0 where
   pub rows-are : rows ≡ reverseRows c (length coded)
-  pub reverse : Matched c coded (onStrand 1 second) reverse-firsts reverse-nexts rows
+  pub forward : Columns c coded second firsts₀ nexts₀ firsts nexts
+  pub reverse : (c .strand ≡ 0 → ⊥) → Columns c coded (onStrand 1 second) reverse-firsts₀ reverse-nexts₀ reverse-firsts reverse-nexts
+  pub unasked : c .strand ≡ 0 → (reverse-firsts ≡ reverse-firsts₀) × (reverse-nexts ≡ reverse-nexts₀)

@@ -1,16 +1,17 @@
 // From the codes of the first sequence and the letters of the second to the matches of each strand, as walks over columns: for each row the first column
 // it meets, for each column the next one with the same k-mer. Local arrays hold letters and codes, no records.
 use rules::Settings;
+ghost use mathlib.Core.Path.{_≡_};
 ghost use lib.ListN.{length};
 ghost use Rattle.rules.specs.Strands.{onStrand};
-ghost use Rattle.walks.specs.Matched.{Fits, Blank, Matched, BothMatched};
+ghost use Rattle.walks.specs.Matched.{Fits, Columns, BothColumns};
 
 // The second sequence as it stands. A step a letter for its codes, and near as little for the matches.
 pub fn forward(c: Settings, coded: &[u64], second: &[u8], firsts: &mut [u32], nexts: &mut [u32])
     requires { ⌜ Fits c (now coded) (now second) ⌝ }
-    requires { ⌜ Blank (now firsts) ⌝ }
-    requires { ⌜ Blank (now nexts) ⌝ }
-    ensures { λ _. ⌜ Matched c (now (coded .entry)) (now (second .entry)) (now (firsts .exit)) (now (nexts .exit)) (length (now (coded .entry))) ⌝ }
+    requires { ⌜ length (now firsts) ≡ 16384 ⌝ }
+    requires { ⌜ length (now nexts) ≡ 16384 ⌝ }
+    ensures { λ _. ⌜ Columns c (now (coded .entry)) (now (second .entry)) (now (firsts .entry)) (now (nexts .entry)) (now (firsts .exit)) (now (nexts .exit)) ⌝ }
 {
     let mut codes = [0u64; 16384];
     let columns = kmers::code_all(second, c.k, &mut codes);
@@ -20,9 +21,9 @@ pub fn forward(c: Settings, coded: &[u64], second: &[u8], firsts: &mut [u32], ne
 // And turned round.
 fn reverse(c: Settings, coded: &[u64], second: &[u8], firsts: &mut [u32], nexts: &mut [u32])
     requires { ⌜ Fits c (now coded) (now second) ⌝ }
-    requires { ⌜ Blank (now firsts) ⌝ }
-    requires { ⌜ Blank (now nexts) ⌝ }
-    ensures { λ _. ⌜ Matched c (now (coded .entry)) (onStrand 1 (now (second .entry))) (now (firsts .exit)) (now (nexts .exit)) (length (now (coded .entry))) ⌝ }
+    requires { ⌜ length (now firsts) ≡ 16384 ⌝ }
+    requires { ⌜ length (now nexts) ≡ 16384 ⌝ }
+    ensures { λ _. ⌜ Columns c (now (coded .entry)) (onStrand 1 (now (second .entry))) (now (firsts .entry)) (now (nexts .entry)) (now (firsts .exit)) (now (nexts .exit)) ⌝ }
 {
     let mut turned = [0u8; 16384];
     letters::reverse_complement(second, &mut turned);
@@ -32,9 +33,9 @@ fn reverse(c: Settings, coded: &[u64], second: &[u8], firsts: &mut [u32], nexts:
 // The one strand that the settings of a stopped sweep name.
 pub fn strand(c: Settings, coded: &[u64], second: &[u8], firsts: &mut [u32], nexts: &mut [u32])
     requires { ⌜ Fits c (now coded) (now second) ⌝ }
-    requires { ⌜ Blank (now firsts) ⌝ }
-    requires { ⌜ Blank (now nexts) ⌝ }
-    ensures { λ _. ⌜ Matched c (now (coded .entry)) (onStrand (c .strand) (now (second .entry))) (now (firsts .exit)) (now (nexts .exit)) (length (now (coded .entry))) ⌝ }
+    requires { ⌜ length (now firsts) ≡ 16384 ⌝ }
+    requires { ⌜ length (now nexts) ≡ 16384 ⌝ }
+    ensures { λ _. ⌜ Columns c (now (coded .entry)) (onStrand (c .strand) (now (second .entry))) (now (firsts .entry)) (now (nexts .entry)) (now (firsts .exit)) (now (nexts .exit)) ⌝ }
 {
     if c.strand == 0 {
         forward(c, coded, second, firsts, nexts);
@@ -54,11 +55,11 @@ pub fn both(
     reverse_nexts: &mut [u32],
 ) -> usize
     requires { ⌜ Fits c (now coded) (now second) ⌝ }
-    requires { ⌜ Blank (now firsts) ⌝ }
-    requires { ⌜ Blank (now nexts) ⌝ }
-    requires { ⌜ Blank (now «reverse_firsts») ⌝ }
-    requires { ⌜ Blank (now «reverse_nexts») ⌝ }
-    ensures { λ r. ⌜ BothMatched c (now (coded .entry)) (now (second .entry)) (now (firsts .exit)) (now (nexts .exit)) (now («reverse_firsts» .exit)) (now («reverse_nexts» .exit)) r ⌝ }
+    requires { ⌜ length (now firsts) ≡ 16384 ⌝ }
+    requires { ⌜ length (now nexts) ≡ 16384 ⌝ }
+    requires { ⌜ length (now «reverse_firsts») ≡ 16384 ⌝ }
+    requires { ⌜ length (now «reverse_nexts») ≡ 16384 ⌝ }
+    ensures { λ r. ⌜ BothColumns c (now (coded .entry)) (now (second .entry)) (now (firsts .entry)) (now (nexts .entry)) (now («reverse_firsts» .entry)) (now («reverse_nexts» .entry)) (now (firsts .exit)) (now (nexts .exit)) (now («reverse_firsts» .exit)) (now («reverse_nexts» .exit)) r ⌝ }
 {
     forward(c, coded, second, firsts, nexts);
     if c.strand == 0 {

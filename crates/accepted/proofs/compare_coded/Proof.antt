@@ -1,6 +1,7 @@
 -- `accepted::compare_coded` meets its contract: the job on the walks of both strands is the job on their matches. Assumes nothing.
 use mathlib.Core.Path.{refl}
-use Rattle.accepted.proofs.Walking.{blank, front-long, walked, rows-few, reverse-few, compares}
+use Rattle.walks.proofs.Matching.{both-matched}
+use Rattle.accepted.proofs.Walking.{blank, walks-fit, compares}
 use borrow.Author.Needs.{needs}
 use Rattle.accepted.proofs.compare_coded.Statement.{statement}
 use Rattle.accepted.proofs.compare_coded.Tie as tie
@@ -16,40 +17,35 @@ abbrev start : tie.After-both → tie.Start
 start b = entry (b .before)
 
 both-requires : tie.Need-both-requires
-both-requires c κs = (entry c .pre, (blank, (blank, (blank, blank))))
+both-requires c κs = (entry c .pre, (blank .long, (blank .long, (blank .long, blank .long))))
 
 slice-aggregate-compare-matches : tie.Need-slice-aggregate-compare-matches
 slice-aggregate-compare-matches c =
     let b = c .before .before .before .before .before in
-    let ok = start b .pre in
-    front-long ok (ok .few-rows) (b .both .ensures .forward)
+    both-matched (start b .pre) blank blank blank blank (b .both .ensures) .forward .long
 
 array-share-prefix-reverse-firsts : tie.Need-array-share-prefix-reverse-firsts
 array-share-prefix-reverse-firsts c =
     let b = matched c in
-    let ok = start b .pre in
-    let m = b .both .ensures in
-    rows-few ok (reverse-few ok (m .rows-are)) (m .reverse)
+    both-matched (start b .pre) blank blank blank blank (b .both .ensures) .reverse .inside
 
 slice-aggregate-compare-matches-3 : tie.Need-slice-aggregate-compare-matches-3
 slice-aggregate-compare-matches-3 c =
     let b = matched (c .before) in
-    let ok = start b .pre in
-    let m = b .both .ensures in
-    front-long ok (reverse-few ok (m .rows-are)) (m .reverse)
+    both-matched (start b .pre) blank blank blank blank (b .both .ensures) .reverse .long
 
 compare-matches-requires : tie.Need-compare-matches-requires
 compare-matches-requires c κs =
     let b = matched (c .before .before .before .before) in
     let ok = start b .pre in
-    let m = b .both .ensures in
-    (walked ok (ok .few-rows) (m .forward), (walked ok (reverse-few ok (m .rows-are)) (m .reverse), ok .short-second))
+    let m = both-matched ok blank blank blank blank (b .both .ensures) in
+    (walks-fit ok (m .forward), (walks-fit ok (m .reverse), ok .short-second))
 
 returns : tie.Need-returns
 returns c =
     let j = c .before .before .before .before in
     let b = matched (j .before .before .before .before .before) in
-    compares (start b .pre) (b .both .ensures) refl (j .compare-matches .ensures)
+    compares (both-matched (start b .pre) blank blank blank blank (b .both .ensures)) _ _ refl (j .compare-matches .ensures)
 
 pub compare-coded-spec : {M : Type 1} → statement M
 compare-coded-spec =

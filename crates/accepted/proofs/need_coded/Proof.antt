@@ -1,5 +1,6 @@
 -- `accepted::need_coded` meets its contract: W is counted from the walks of both strands. Assumes nothing.
-use Rattle.accepted.proofs.Walking.{blank, front-long, rows-few, reverse-few, measures}
+use Rattle.walks.proofs.Matching.{both-matched}
+use Rattle.accepted.proofs.Walking.{blank, measures}
 use borrow.Author.Needs.{needs}
 use Rattle.accepted.proofs.need_coded.Statement.{statement}
 use Rattle.accepted.proofs.need_coded.Tie as tie
@@ -12,39 +13,34 @@ abbrev start : tie.After-both → tie.Start
 start b = b .before .before .before .before .before .before .before
 
 both-requires : tie.Need-both-requires
-both-requires c κs = (c .before .before .before .before .before .before .pre, (blank, (blank, (blank, blank))))
+both-requires c κs = (c .before .before .before .before .before .before .pre, (blank .long, (blank .long, (blank .long, blank .long))))
 
 slice-aggregate-count-strands : tie.Need-slice-aggregate-count-strands
 slice-aggregate-count-strands c =
     let b = c .before .before .before .before .before in
-    let ok = start b .pre in
-    front-long ok (ok .few-rows) (b .both .ensures .forward)
+    both-matched (start b .pre) blank blank blank blank (b .both .ensures) .forward .long
 
 array-share-prefix-reverse-firsts : tie.Need-array-share-prefix-reverse-firsts
 array-share-prefix-reverse-firsts c =
     let b = matched c in
-    let ok = start b .pre in
-    let m = b .both .ensures in
-    rows-few ok (reverse-few ok (m .rows-are)) (m .reverse)
+    both-matched (start b .pre) blank blank blank blank (b .both .ensures) .reverse .inside
 
 slice-aggregate-count-strands-3 : tie.Need-slice-aggregate-count-strands-3
 slice-aggregate-count-strands-3 c =
     let b = matched (c .before) in
-    let ok = start b .pre in
-    let m = b .both .ensures in
-    front-long ok (reverse-few ok (m .rows-are)) (m .reverse)
+    both-matched (start b .pre) blank blank blank blank (b .both .ensures) .reverse .long
 
 count-strands-requires : tie.Need-count-strands-requires
 count-strands-requires c κs =
     let b = matched (c .before .before .before) in
-    let m = b .both .ensures in
+    let m = both-matched (start b .pre) blank blank blank blank (b .both .ensures) in
     (m .forward .safe, m .reverse .safe)
 
 returns : tie.Need-returns
 returns c =
     let w = c .before in
     let b = matched (w .before .before .before) in
-    measures (start b .pre) (b .both .ensures) (w .wide .ensures .0) (c .count-strands .ensures)
+    measures (both-matched (start b .pre) blank blank blank blank (b .both .ensures)) (w .wide .ensures .0) (c .count-strands .ensures)
 
 pub need-coded-spec : {M : Type 1} → statement M
 need-coded-spec =

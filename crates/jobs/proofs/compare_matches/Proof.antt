@@ -1,7 +1,7 @@
 -- `jobs::compare_matches` meets its contract: it refuses for room, or ends as the rooms that the sweeps left do. Assumes nothing.
 use native.Mathlib.Omega.{arith}
 use Rattle.rules.specs.Rooms.{workHolds}
-use Rattle.jobs.proofs.Outcomes.{CountedWith, compare-7, compare-on}
+use Rattle.jobs.proofs.Outcomes.{fits-both, compare-7, compare-on}
 use borrow.Author.Needs.{needs}
 use Rattle.jobs.proofs.compare_matches.Statement.{statement}
 use Rattle.jobs.proofs.compare_matches.Tie as tie
@@ -13,11 +13,6 @@ counted p = p .before .before
 abbrev start : tie.After-count-strands → tie.Start
 start n = n .before .before .before .before .before .before .before .before
 
-counts-with : (n : tie.After-count-strands)
-    → let a = start n .args in
-    CountedWith (a .firsts .now) (a .nexts .now) (a .reverse-firsts .now) (a .reverse-nexts .now) (a .c) (n .before .wide .result) (n .count-strands .result)
-counts-with n = record { bound = n .before .wide .ensures .0; counted = n .count-strands .ensures }
-
 count-strands-requires : tie.Need-count-strands-requires
 count-strands-requires c κs = let s = c .before .before .before .before .before .before .before in (s .pre .0 .walks, s .pre .1 .0 .walks)
 
@@ -27,7 +22,8 @@ returns c =
     let x = y .before .before .before .before in
     let q = x .before .before in
     let p = q .before in
-    compare-7 (counts-with (counted p)) (omega (arith, p .record-count .ensures, q .if1 .taken)) (c .refuse .ensures) (x .zero-all .ensures) (y .zero-all2 .ensures)
+    let n = counted p in
+    compare-7 _ _ _ _ _ (n .before .wide .ensures .0) (n .count-strands .ensures) _ _ _ (omega (arith, p .record-count .ensures, q .if1 .taken)) (c .refuse .ensures) (x .zero-all .ensures) (y .zero-all2 .ensures)
 
 list-strands-requires : tie.Need-list-strands-requires
 unfolding workHolds
@@ -36,9 +32,8 @@ list-strands-requires c κs =
     let p = q .before in
     let n = counted p in
     let s = start n in
-    let f = n .count-strands .ensures .few in
-    let w = n .count-strands .ensures .narrow in
-    (s .pre .0, (s .pre .1 .0, (omega (arith, p .record-count .ensures, q .if1 .left), (omega arith, s .pre .1 .1))))
+    let (few, enough, reverse-enough) = fits-both (s .pre .0 .walks) (s .pre .1 .0 .walks) (s .args .c) (n .before .wide .ensures .0) (n .count-strands .ensures) in
+    (s .pre .0, (s .pre .1 .0, (omega (arith, p .record-count .ensures, q .if1 .left), (few, (s .pre .1 .1, (enough, reverse-enough))))))
 
 finish-requires : tie.Need-finish-requires
 finish-requires c κs =
@@ -54,9 +49,10 @@ returns-2 c =
     let q = m .before .before .before in
     let p = q .before in
     let kept = m .list-strands .kept .1 .1 .1 .1 .1 .1 .1 in
-    compare-on (counts-with (counted p)) (m .list-strands .last .1 .1 .1 .1 .1 .1 .1 .0) (omega (arith, p .record-count .ensures, q .if1 .left)) (kept .0)
+    let n = counted p in
+    compare-on _ _ _ _ _ (n .before .wide .ensures .0) (n .count-strands .ensures) _ _ (m .list-strands .last .1 .1 .1 .1 .1 .1 .1 .0) _ (omega (arith, p .record-count .ensures, q .if1 .left)) (kept .0)
     (kept .1 .0)
-    (m .list-strands .ensures) (f .finish .ensures)
+    (m .list-strands .ensures .entered) (f .finish .ensures)
 
 pub compare-matches-spec : {M : Type 1} → statement M
 compare-matches-spec =

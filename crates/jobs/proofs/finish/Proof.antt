@@ -18,7 +18,7 @@ returns c =
     let y = c .before .before .before in
     let t = y .before .before in
     let p = t .before in
-    finish-8 (omega (arith, p .entry-count .ensures, t .if1 .taken)) (c .refuse .ensures) (zeroed p .zero-all .ensures) (y .zero-all2 .ensures)
+    finish-8 _ _ _ _ (omega (arith, p .entry-count .ensures, t .if1 .taken)) (c .refuse .ensures) (zeroed p .zero-all .ensures) (y .zero-all2 .ensures)
 
 zero-after-entries-requires : tie.Need-zero-after-entries-requires
 unfolding listHolds
@@ -33,7 +33,7 @@ returns-2 c =
     let y = l .before .before .before in
     let t = y .before .before in
     let p = t .before in
-    finish-0 (omega (arith, p .entry-count .ensures, t .if1 .left)) (l .link-strands .ensures) (c .done .ensures) (zeroed p .zero-all .ensures)
+    finish-0 _ _ _ _ (omega (arith, p .entry-count .ensures, t .if1 .left)) (l .link-strands .ensures) (c .done .ensures) (zeroed p .zero-all .ensures)
     (y .zero-after-entries .ensures)
 
 pub finish-spec : {M : Type 1} → statement M

@@ -56,7 +56,7 @@ loop-again c =
     let new = c .add-row .last .1 .1 .1 .0 in
     let row = subst (λ (n : ℕ). RowAdded (a .nexts .now) n (a .b) freed new (v .total) (c .add-row .result .total)) (w .wide .ensures .0)
     (c .add-row .ensures .0) in
-    (link-next (v .inv .0) (s .pre .few-rows) (i .loop-test .taken) (r .release .ensures .0) row, c .add-row .ensures .1)
+    (link-next (v .inv .0) (s .pre) (i .loop-test .taken) (r .release .ensures .0) row, c .add-row .ensures .1)
 
 returns : tie.Need-returns Inv-loop μ-loop
 returns c =

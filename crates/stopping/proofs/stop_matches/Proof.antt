@@ -1,7 +1,7 @@
 -- `stopping::stop_matches` meets its contract: each return is a line of the table. Assumes nothing.
 use native.Mathlib.Omega.{arith}
 use Rattle.rules.specs.Rooms.{workHolds}
-use Rattle.stopping.proofs.Outcomes.{stopped-7, stopped-19, stopped-0}
+use Rattle.stopping.proofs.Outcomes.{fits-one, stopped-7, stopped-19, stopped-0}
 use borrow.Author.Needs.{needs}
 use Rattle.stopping.proofs.stop_matches.Statement.{statement}
 use Rattle.stopping.proofs.stop_matches.Tie as tie
@@ -22,7 +22,7 @@ returns c =
     let q = x .before .before in
     let n = q .before .before .before in
     let w = n .before in
-    stopped-7 (w .wide .ensures .0) (n .count-matches .ensures) (omega (arith, q .before .record-count .ensures, q .if1 .taken)) (c .refuse .ensures)
+    stopped-7 _ _ _ (w .wide .ensures .0) (n .count-matches .ensures) _ _ (omega (arith, q .before .record-count .ensures, q .if1 .taken)) (c .refuse .ensures)
     (x .zero-all .ensures)
 
 returns-2 : tie.Need-returns-2
@@ -32,7 +32,7 @@ returns-2 c =
     let q = t .before in
     let n = q .before .before .before in
     let w = n .before in
-    stopped-19 (w .wide .ensures .0) (n .count-matches .ensures) (omega (arith, q .before .record-count .ensures, q .if1 .left)) (t .if2 .taken)
+    stopped-19 _ _ _ (w .wide .ensures .0) (n .count-matches .ensures) _ _ (omega (arith, q .before .record-count .ensures, q .if1 .left)) (t .if2 .taken)
     (c .refuse2 .ensures) (x .zero-all2 .ensures)
 
 hold-requires : tie.Need-hold-requires
@@ -41,13 +41,9 @@ hold-requires c κs =
     let t = c .before in
     let q = t .before in
     let n = q .before .before .before in
-    let s = start n in (
-      s .pre,
-      (
-        omega (arith, q .before .record-count .ensures, q .if1 .left),
-        (omega (arith, n .count-matches .ensures .few, n .count-matches .ensures .narrow, s .pre .walks .few-rows), t .if2 .left),
-      ),
-    )
+    let s = start n in
+    let (few, enough) = fits-one _ _ (s .args .c) (n .before .wide .ensures .0) (n .count-matches .ensures) (s .pre .walks) in
+    (s .pre, (omega (arith, q .before .record-count .ensures, q .if1 .left), (few, (t .if2 .left, enough))))
 
 count-links-requires : tie.Need-count-links-requires
 count-links-requires c κs = start (counted (c .before .before .before .before)) .pre .walks
@@ -60,7 +56,7 @@ returns-3 c =
     let q = t .before in
     let n = q .before .before .before in
     let w = n .before in
-    stopped-0 (w .wide .ensures .0) (n .count-matches .ensures) (omega (arith, q .before .record-count .ensures, q .if1 .left)) (t .if2 .left)
+    stopped-0 _ _ _ (w .wide .ensures .0) (n .count-matches .ensures) _ _ (omega (arith, q .before .record-count .ensures, q .if1 .left)) (t .if2 .left)
     (m .hold .ensures) (l .count-links .ensures) (c .done .ensures)
 
 pub stop-matches-spec : {M : Type 1} → statement M

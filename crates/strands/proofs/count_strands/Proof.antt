@@ -10,14 +10,14 @@ add-matches c =
     let r = c .before .before in
     let f = r .before in
     let s = f .before .before .before .before .before in
-    omega (arith, sum-few (s .pre .0) (s .pre .1) (f .count-matches .ensures) (r .count-matches2 .ensures))
+    omega (arith, sum-few (s .pre .0) (s .pre .1) (s .args .b) (f .count-matches .ensures) (r .count-matches2 .ensures))
 
 returns : tie.Need-returns
 returns c =
     let r = c .before .before .before in
     let f = r .before in
     let s = f .before .before .before .before .before in
-    counts-both (s .pre .0) (s .pre .1) (f .count-matches .ensures) (r .count-matches2 .ensures) (c .larger .ensures)
+    counts-both (s .pre .0) (s .pre .1) (s .args .b) (f .count-matches .ensures) (r .count-matches2 .ensures) (c .larger .ensures)
 
 pub count-strands-spec : {M : Type 1} → statement M
 count-strands-spec =

@@ -9,7 +9,7 @@ returns c =
     let r = c .before in
     let f = r .before in
     let s = f .before .before .before .before .before in
-    links-both (s .pre .0) (s .pre .1) (f .count-links .ensures) (r .count-links2 .ensures) (c .wrapping-add-u64 .ensures)
+    links-both (s .pre .0) (s .pre .1) (s .args .b) (f .count-links .ensures) (r .count-links2 .ensures) (c .wrapping-add-u64 .ensures)
 
 pub link-strands-spec : {M : Type 1} → statement M
 link-strands-spec =

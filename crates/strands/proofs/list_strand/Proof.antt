@@ -9,14 +9,15 @@ abbrev start : tie.After-list-all → tie.Start
 start d = d .before .before .before .before .before .before .before .before
 
 returns : tie.Need-returns
-returns c = lists-none (c .if1 .taken)
+returns c = lists-none (c .if1 .taken) (c .before .before .before .before .before .pre .1 .1 .1)
 
 list-all-requires : tie.Need-list-all-requires
 list-all-requires c κs =
     let e = c .before .before in
     let s = e .before .before .before .before .before in
     let a = s .args in
-    sweep-safe (a .firsts .now) (a .nexts .now) (a .work .now) (a .c) (a .slots) (s .pre .0) (s .pre .1 .0) (s .pre .1 .1) (e .if1 .left)
+    let p = s .pre in
+    (sweep-safe (a .firsts .now) (a .nexts .now) (a .work .now) (a .c) (a .slots) (p .0) (p .1 .0) (p .1 .1 .0) (e .if1 .left), p .1 .1 .1)
 
 returns-2 : tie.Need-returns-2
 returns-2 c =

@@ -16,7 +16,7 @@ list-turned-requires : tie.Need-list-turned-requires
 list-turned-requires c κs =
     let m = listed (c .before .before) in
     let p = start m .pre .1 in
-    (p .0, (omega (arith, p .1 .0, m .list-strand .kept .1 .1 .1 .1 .0), (p .1 .1 .0, p .1 .1 .1)))
+    (p .0, (omega (arith, p .1 .0, m .list-strand .kept .1 .1 .1 .1 .0), (p .1 .1 .0, (p .1 .1 .1 .0, p .1 .1 .1 .1 .1))))
 
 returns : tie.Need-returns
 returns c =

@@ -17,7 +17,7 @@ turn-entries-requires : tie.Need-turn-entries-requires
 unfolding listHolds
 turn-entries-requires c κs =
     let t = c .before in
-    (omega (arith, t .before .entry-count .ensures, t .if1 .taken), start (listed t) .pre .1 .1 .1)
+    (omega (arith, t .before .entry-count .ensures, t .if1 .taken), start (listed t) .pre .1 .1 .1 .0)
 
 returns : tie.Need-returns
 returns c =

@@ -10,18 +10,19 @@ abbrev start : tie.After-sweep → tie.Start
 start d = d .before .before .before .before .before .before .before
 
 sweep-requires : tie.Need-sweep-requires
-sweep-requires c κs = (c .before .before .before .before .before .before .pre, none-latest)
+sweep-requires c κs = (c .before .before .before .before .before .before .pre .0, none-latest)
 
 zero-after-requires : tie.Need-zero-after-requires
 zero-after-requires c κs =
     let d = c .before .before .before .before .before .before in
-    omega (arith, d .sweep .ensures .few, start d .pre .walks .few-rows)
+    omega (arith, d .sweep .ensures .few, start d .pre .0 .walks .few-rows)
 
 returns : tie.Need-returns
 returns c =
     let e = c .before .before in
     let d = e .before .before .before .before .before .before .before in
-    holds-run (start d .pre) (d .sweep .ensures) (d .sweep .kept .1 .1 .0) (e .zero-after .ensures)
+    let p = start d .pre in
+    holds-run (p .0) (p .1 .0) (p .1 .1) (d .sweep .ensures) (d .sweep .kept .1 .1 .0) (e .zero-after .ensures)
 
 pub hold-run-spec : {M : Type 1} → statement M
 hold-run-spec =

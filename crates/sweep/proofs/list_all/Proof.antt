@@ -16,18 +16,18 @@ abbrev swept : tie.After-wide → tie.After-sweep
 swept w = w .before .before .before .before .before .before
 
 sweep-requires : tie.Need-sweep-requires
-sweep-requires c κs = (c .before .before .before .before .before .before .before .pre, none-latest)
+sweep-requires c κs = (c .before .before .before .before .before .before .before .pre .0, none-latest)
 
 add-last : tie.Need-add-last
-add-last c = omega (arith, c .wide .ensures .1, start (swept c) .pre .walks .few-rows)
+add-last c = omega (arith, c .wide .ensures .1, start (swept c) .pre .0 .walks .few-rows)
 
 add-last-2 : tie.Need-add-last-2
-add-last-2 c = omega (arith, c .wide .ensures .1, start (swept c) .pre .walks .few-rows)
+add-last-2 c = omega (arith, c .wide .ensures .1, start (swept c) .pre .0 .walks .few-rows)
 
 release-requires : tie.Need-release-requires
 release-requires c κs =
     let d = swept (c .before .before .before) in
-    last-safe (start d .pre) (d .sweep .ensures) (d .sweep .kept .1 .1 .0)
+    last-safe (start d .pre .0) (d .sweep .ensures) (d .sweep .kept .1 .1 .0)
 
 returns : tie.Need-returns
 returns c =
@@ -35,7 +35,7 @@ returns c =
     let w = e .before .before .before .before in
     let d = swept w in
     let s = start d in
-    lists-all (s .pre) (d .sweep .ensures)
+    lists-all (s .pre .0) (d .sweep .ensures) (s .pre .1)
     (ap (λ (b : ℕ). length (s .args .firsts .now) + b + 1) (w .wide .ensures .0)) (e .release .ensures)
 
 pub list-all-spec : {M : Type 1} → statement M

@@ -1,9 +1,11 @@
 -- `tally::count_matches` meets its contract: the running number is the run of the last row, and W the largest so far. Assumes nothing.
-use mathlib.Core.Path.{subst}
-use Prim.Native.Nat.{ℕ, _-_}
+use mathlib.Core.Path.{_≡_, ap, _∙_}
+use mathlib.Core.List.{List}
+use Prim.Native.Nat.{ℕ, _+_, _-_, _^_, _≤_, _<_}
 use native.Mathlib.Omega.{arith}
 use lib.ListN.{length}
-use Rattle.tally.specs.Tallies.{RowSized}
+use Rattle.matches.specs.Walks.{rowFrom, WalkSafe}
+use Rattle.matches.proofs.Walked.{row-few, walked-few}
 use Rattle.tally.proofs.Runs.{RunLoop, run-start, run-next, run-end}
 use borrow.Author.Needs.{needs}
 use Rattle.tally.proofs.count_matches.Statement.{statement}
@@ -31,17 +33,26 @@ row-size-requires c κs =
     let safe = c .before .before .before .before .before .before .pre in
     (safe .nexts-safe, rw (c .wide .ensures .0) (safe .starts _))
 
+-- no sum of the matches so far and one row's comes near a word
+rows-fit : {firsts nexts : List ℕ} {b matches run widest p : ℕ} (size start : ℕ) → WalkSafe firsts nexts → RunLoop firsts nexts b matches run widest p
+    → size ≡ length (rowFrom nexts start) → (matches + size < 2 ^ 32) × (run + size < 2 ^ 32)
+rows-fit {nexts = nexts} {p = p} size start safe v e =
+    let most : size ≤ 16384 = omega (arith, e, row-few nexts start, safe .nexts-safe .few-columns) in
+    let all = walked-few safe p in
+    let few = safe .few-rows in
+    (omega (arith, v .counted, v .inside), omega (arith, v .running, v .inside))
+
 add-matches : tie.Need-add-matches Inv-loop μ-loop
 add-matches c =
     let l = c .before .before .before .before in
-    let safe = l .before .before .before .pre in
-    omega (arith, l .loop .inv .counted .few, l .loop .inv .few, c .row-size .ensures .few, safe .nexts-safe .few-columns, safe .few-rows)
+    let s = l .before .before .before in
+    omega (arith, rows-fit _ (c .before .wide .result) (s .pre) (l .loop .inv) (c .row-size .ensures))
 
 add-minus : tie.Need-add-minus Inv-loop μ-loop
 add-minus c =
     let l = c .before .before .before .before in
-    let safe = l .before .before .before .pre in
-    omega (arith, l .loop .inv .counted .few, l .loop .inv .few, c .row-size .ensures .few, safe .nexts-safe .few-columns, safe .few-rows)
+    let s = l .before .before .before in
+    omega (arith, rows-fit _ (c .before .wide .result) (s .pre) (l .loop .inv) (c .row-size .ensures))
 
 leaving-requires : tie.Need-leaving-requires Inv-loop μ-loop
 leaving-requires c κs =
@@ -60,9 +71,8 @@ loop-again c =
     let i = r .before .before .before in
     let l = i .before in
     let s = l .before .before .before in
-    let a = s .args in
-    let size = subst (λ (n : ℕ). RowSized (a .nexts .now) n (r .row-size .result)) (r .before .wide .ensures .0) (r .row-size .ensures) in
-    run-next (s .pre) (l .loop .inv) (i .loop-test .taken) size (c .before .before .leaving .ensures)
+    let size = r .row-size .ensures ∙ ap (λ (n : ℕ). length (rowFrom (s .args .nexts .now) n)) (r .before .wide .ensures .0) in
+    run-next (s .pre) (l .loop .inv) _ (i .loop-test .taken) size (c .before .before .leaving .ensures)
     (c .before .minus .ensures) (c .larger .ensures)
 
 returns : tie.Need-returns Inv-loop μ-loop

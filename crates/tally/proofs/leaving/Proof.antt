@@ -1,7 +1,8 @@
 -- `tally::leaving` meets its contract: up to row b + 1 no row leaves the run, and then row p - b does, with the size walked. Assumes nothing.
-use mathlib.Core.Path.{subst}
+use mathlib.Core.Path.{ap, _∙_}
 use Prim.Native.Nat.{ℕ}
-use Rattle.tally.specs.Tallies.{RowSized}
+use lib.ListN.{length}
+use Rattle.matches.specs.Walks.{rowFrom}
 use Rattle.tally.proofs.Runs.{leaves-none, leaves-row}
 use borrow.Author.Needs.{needs}
 use Rattle.tally.proofs.leaving.Statement.{statement}
@@ -9,8 +10,7 @@ use Rattle.tally.proofs.leaving.Tie as tie
 
 returns : tie.Need-returns
 returns c =
-    let a = c .before .before .before .args in
-    leaves-none (a .firsts .now) (a .nexts .now) (a .b) (a .p) (c .if1 .taken)
+    leaves-none (c .before .before .before .pre .0) (c .if1 .taken)
 
 row-size-requires : tie.Need-row-size-requires
 row-size-requires c κs =
@@ -22,9 +22,8 @@ returns-2 : tie.Need-returns-2
 returns-2 c =
     let e = c .before .before .before in
     let s = e .before .before .before in
-    let a = s .args in
-    let size = subst (λ (n : ℕ). RowSized (a .nexts .now) n (c .row-size .result)) (c .before .wide .ensures .0) (c .row-size .ensures) in
-    leaves-row (a .firsts .now) (a .nexts .now) (a .b) (a .p) (c .row-size .result) (e .if1 .left) (s .pre .1) size
+    let size = c .row-size .ensures ∙ ap (λ (n : ℕ). length (rowFrom (s .args .nexts .now) n)) (c .before .wide .ensures .0) in
+    leaves-row (s .pre .0) (e .if1 .left) (s .pre .1) size
 
 pub leaving-spec : {M : Type 1} → statement M
 leaving-spec =

@@ -1,21 +1,25 @@
 -- `tally::matches_before` meets its contract: after p rows the matches of the first p are counted. Assumes nothing.
-use mathlib.Core.Path.{subst}
+use mathlib.Core.Path.{_≡_, refl, ap, _∙_}
 use Prim.Native.Nat.{ℕ, _-_, _≤_}
 use native.Mathlib.Omega.{arith}
-use Rattle.tally.specs.Tallies.{RowSized, MatchedBefore}
-use Rattle.tally.proofs.RowSizes.{before-start, before-next, before-end}
+use lib.ListN.{length}
+use Rattle.rules.specs.Matches.{matchesTo}
+use Rattle.matches.specs.Walks.{rowFrom, walkedTo}
+use Rattle.matches.proofs.Walked.{row-few, walked-few}
+use Rattle.tally.proofs.Runs.{before-next}
 use borrow.Author.Needs.{needs}
 use Rattle.tally.proofs.matches_before.Statement.{statement}
 use Rattle.tally.proofs.matches_before.Tie as tie
 
 abbrev Inv-loop : tie.InvT-loop
-Inv-loop firsts nexts rows matches₀ p₀ matches p = (p ≤ rows) × MatchedBefore firsts nexts p matches
+Inv-loop firsts nexts rows matches₀ p₀ matches p = (p ≤ rows) × (matches ≡ length (walkedTo firsts nexts p))
 
 abbrev μ-loop : tie.MeasureT-loop
 μ-loop firsts nexts rows matches₀ p₀ matches p = rows - p
 
 loop-holds : tie.Need-loop-holds Inv-loop μ-loop
-loop-holds c = let a = c .before .before .args in (omega arith, before-start (a .firsts .now) (a .nexts .now))
+unfolding walkedTo matchesTo
+loop-holds c = (omega arith, refl)
 
 mul-wide : tie.Need-mul-wide Inv-loop μ-loop
 mul-wide c = omega arith
@@ -32,7 +36,8 @@ add-matches : tie.Need-add-matches Inv-loop μ-loop
 add-matches c =
     let l = c .before .before .before .before in
     let s = l .before .before .before in
-    omega (arith, l .loop .inv .1 .few, c .row-size .ensures .few, s .pre .0 .nexts-safe .few-columns, s .pre .0 .few-rows)
+    let safe = s .pre .0 in
+    omega (arith, l .loop .inv .1, walked-few safe (l .loop .p), c .row-size .ensures, row-few (s .args .nexts .now) (c .before .wide .result), safe .nexts-safe .few-columns, safe .few-rows)
 
 add-p : tie.Need-add-p Inv-loop μ-loop
 add-p c = omega arith
@@ -44,18 +49,15 @@ loop-again : tie.Need-loop-again Inv-loop μ-loop
 loop-again c =
     let l = c .before .before .before .before in
     let s = l .before .before .before in
-    let a = s .args in
-    let size = subst (λ (n : ℕ). RowSized (a .nexts .now) n (c .row-size .result)) (c .before .wide .ensures .0) (c .row-size .ensures) in (
-      omega arith,
-      before-next (a .firsts .now) (a .nexts .now) (s .pre .0) (l .loop .p) (l .loop .matches) (c .row-size .result) (omega arith)
-          (l .loop .inv .1) size,
-    )
+    let size = c .row-size .ensures ∙ ap (λ (n : ℕ). length (rowFrom (s .args .nexts .now) n)) (c .before .wide .ensures .0) in
+    (omega arith, before-next (s .pre .0) (omega arith) (l .loop .inv .1) size)
 
 returns : tie.Need-returns Inv-loop μ-loop
 returns c =
     let l = c .before in
     let a = l .before .before .before .args in
-    before-end (a .firsts .now) (a .nexts .now) (a .rows) (l .loop .p) (l .loop .matches) (omega arith) (l .loop .inv .1)
+    let all : l .loop .p ≡ a .rows = omega arith in
+    l .loop .inv .1 ∙ ap (λ (n : ℕ). length (walkedTo (a .firsts .now) (a .nexts .now) n)) all
 
 pub matches-before-spec : {M : Type 1} → statement M
 matches-before-spec =

@@ -2,7 +2,7 @@
 use native.Mathlib.Omega.{arith}
 use lib.ListN.{length}
 use Rattle.tally.proofs.Walks.{toCome, come-less}
-use Rattle.tally.proofs.RowSizes.{SizeLoop, size-start, size-next, size-end}
+use Rattle.tally.proofs.RowSizes.{SizeLoop, size-start, size-few, size-next, size-end}
 use borrow.Author.Needs.{needs}
 use Rattle.tally.proofs.row_size.Statement.{statement}
 use Rattle.tally.proofs.row_size.Tie as tie
@@ -16,10 +16,10 @@ abbrev μ-loop : tie.MeasureT-loop
 loop-holds : tie.Need-loop-holds Inv-loop μ-loop
 loop-holds c =
     let s = c .before in
-    size-start (s .pre .0) (s .pre .1)
+    size-start (s .pre .1)
 
 add-size : tie.Need-add-size Inv-loop μ-loop
-add-size c = omega (arith, c .before .loop .inv .few)
+add-size c = omega (arith, size-few (c .before .loop .inv))
 
 sub-wide : tie.Need-sub-wide Inv-loop μ-loop
 sub-wide c = omega arith
@@ -40,13 +40,11 @@ loop-again : tie.Need-loop-again Inv-loop μ-loop
 loop-again c =
     let l = c .before .before .before in
     let s = l .before .before in
-    rw (c .wide .ensures .0) (size-next (s .pre .0) (l .loop .inv) (omega arith))
+    rw (c .wide .ensures .0) (size-next (l .loop .inv) (s .pre .0) (omega arith))
 
 returns : tie.Need-returns Inv-loop μ-loop
 returns c =
-    let l = c .before in
-    let s = l .before .before in
-    size-end (s .pre .0) (l .loop .inv) (omega arith)
+    size-end (c .before .loop .inv) (omega arith)
 
 pub row-size-spec : {M : Type 1} → statement M
 row-size-spec =

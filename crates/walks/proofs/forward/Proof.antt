@@ -10,7 +10,6 @@ use Rattle.rules.proofs.Kmers.{codes-length}
 use Rattle.kmers.proofs.Codes.{codes-front, places-few}
 use Rattle.nexts.specs.Nexts.{NextColumns}
 use Rattle.matches.specs.Columns.{FirstColumns}
-use Rattle.walks.proofs.Matching.{matched}
 use borrow.Author.Needs.{needs}
 use Rattle.walks.proofs.forward.Statement.{statement}
 use Rattle.walks.proofs.forward.Tie as tie
@@ -46,7 +45,7 @@ find-matches-requires c κs =
     let p = c .before .before .before in
     let s = start p in
     let rows = s .pre .0 .few-rows in
-    (rows, (omega (arith, codes-long p, few p), (omega (arith, rows, s .pre .1 .0 .long), omega (arith, codes-long p, few p, s .pre .1 .1 .long))))
+    (rows, (omega (arith, codes-long p, few p), (omega (arith, rows, s .pre .1 .0), omega (arith, codes-long p, few p, s .pre .1 .1))))
 
 returns : tie.Need-returns
 returns c =
@@ -56,9 +55,10 @@ returns c =
     let a = s .args in
     let firsts = m .find-matches .last .1 .1 .1 .0 in
     let nexts = m .find-matches .last .1 .1 .1 .1 .0 in
-    matched (a .c) (a .coded .now) (a .second .now) (s .pre .0) (a .firsts .now) (a .nexts .now) firsts nexts (s .pre .1 .0) (s .pre .1 .1)
-    (subst (λ (l : List ℕ). FirstColumns (a .coded .now) l (a .c .a) (a .firsts .now) firsts) (codes-are p) (m .find-matches .ensures .0))
-    (subst (λ (l : List ℕ). NextColumns l (a .nexts .now) nexts) (codes-are p) (m .find-matches .ensures .1))
+    record {
+      first = subst (λ (l : List ℕ). FirstColumns (a .coded .now) l (a .c .a) (a .firsts .now) firsts) (codes-are p) (m .find-matches .ensures .0);
+      next = subst (λ (l : List ℕ). NextColumns l (a .nexts .now) nexts) (codes-are p) (m .find-matches .ensures .1);
+    }
 
 pub forward-spec : {M : Type 1} → statement M
 forward-spec =

@@ -6,8 +6,8 @@ use lib.ListN.{length, take}
 use Rattle.rules.specs.Letters.{reverseComplement}
 use Rattle.rules.specs.Strands.{onStrand}
 use Rattle.rules.proofs.Strands.{turned-length}
-use Rattle.walks.specs.Matched.{Fits, Matched}
-use Rattle.walks.proofs.Reversing.{turned-fits, turned-front}
+use Rattle.walks.specs.Matched.{Fits, Columns}
+use Rattle.walks.proofs.Turning.{turned-fits, turned-front}
 use borrow.Author.Needs.{needs}
 use Rattle.walks.proofs.reverse.Statement.{statement}
 use Rattle.walks.proofs.reverse.Tie as tie
@@ -35,9 +35,9 @@ unfolding onStrand
 returns c =
     let m = c .before .before .before .before in
     let r = m .before .before .before .before .before in
-    let s = start r in
-    subst (λ (l : List ℕ). Matched (s .args .c) (s .args .coded .now) l (m .forward .last .1 .1 .1 .0) (m .forward .last .1 .1 .1 .1 .0)
-    (length (s .args .coded .now))) (turned-is r) (m .forward .ensures)
+    let a = start r .args in
+    subst (λ (l : List ℕ). Columns (a .c) (a .coded .now) l (a .firsts .now) (a .nexts .now) (m .forward .last .1 .1 .1 .0) (m .forward .last .1 .1 .1 .1 .0))
+    (turned-is r) (m .forward .ensures)
 
 pub reverse-spec : {M : Type 1} → statement M
 reverse-spec =

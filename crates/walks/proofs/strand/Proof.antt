@@ -1,5 +1,5 @@
 -- `walks::strand` meets its contract: an accepted strand is 0 or 1. Assumes nothing.
-use Rattle.walks.proofs.Reversing.{forward-strand, reverse-strand}
+use Rattle.walks.proofs.Turning.{forward-strand, reverse-strand}
 use borrow.Author.Needs.{needs}
 use Rattle.walks.proofs.strand.Statement.{statement}
 use Rattle.walks.proofs.strand.Tie as tie
