@@ -98,11 +98,53 @@
  *   19      the row is above the number of    0         that       all zeros
  *           rows (hornbeamlet_stopped alone)            number
  *
+ * FRAMES
+ *
+ * The program chain reads a job and writes its answer as frames, one a line of
+ * capital hexadecimal digits closed by a line feed: the kind, the number of
+ * payload bytes, these bytes, and a byte that brings the sum of all to 0
+ * modulo 256. Here a frame is its kind and its values, 64-bit numbers:
+ *
+ *   kind             values
+ *   1   job          k, b, a, m (k below 256, the others below 65,536), strand
+ *                    (below 256)
+ *   2   piece of     1 to 128 letter codes: A 1, C 2, M 3, G 4, R 5, S 6, V 7,
+ *       the first    T 8, W 9, Y 10, H 11, K 12, D 13, B 14, N 15
+ *   3   piece of     the same
+ *       the second
+ *   4   end          none
+ *   16  entry        first start, first end, second start, second end, weight
+ *                    (each below 65,536)
+ *   17  done         listed, M, W (each below 4,294,967,296), links
+ *   18  reverse      as 16
+ *       entry
+ *   31  refused      number, sequence (each below 256), detail (below
+ *                    4,294,967,296)
+ *
+ * An input is one job, any number of 2, any number of 3 and one end; what chain
+ * writes is the entries and one done frame, or one refused frame alone. A line
+ * is never longer than HORNBEAMLET_LINE bytes.
+ *
+ * A frame is refused with 27 where it is of no such kind, has another number
+ * of values, a value does not fit, or the line does not hold it.
+ *
+ * A line that is read is refused by the first of these that applies:
+ *
+ *   20   it is not an even number of 6 to 134 capital hexadecimal digits
+ *        closed by a line feed, and nothing else
+ *   21   its length byte is not the number of its bytes less 3
+ *   22   the sum of its bytes is not 0 modulo 256
+ *   23   it is of another kind than the one asked for
+ *   25   its payload has not the size of its kind
+ *
+ * Asked for a kind other than 16, 17, 18 and 31, any line is refused with 23.
+ *
  * POINTERS
  *
  * No pointer may be null, even where its length is 0: pass the address of
  * anything suitably aligned. The rooms and the answer must not overlap one
- * another or the sequences. The two sequences may be the same.
+ * another or the sequences, nor a frame's line its values. The two sequences
+ * may be the same.
  *
  * EXAMPLE
  *
@@ -135,13 +177,27 @@ extern "C" {
 #define HORNBEAMLET_ENTRY 6
 /* Numbers in the answer. */
 #define HORNBEAMLET_ANSWER 7
-/* What hornbeamlet_need adds to the number of a refusal. */
+/* What hornbeamlet_need and hornbeamlet_write_frame add to the number of a
+ * refusal. */
 #define HORNBEAMLET_REFUSED UINT64_C(4294967296)
 /* The strand for hornbeamlet_need and hornbeamlet_compare: forward or both. */
 #define HORNBEAMLET_FORWARD 0
 #define HORNBEAMLET_BOTH 1
 /* The strand for hornbeamlet_stopped: HORNBEAMLET_FORWARD or this one. */
 #define HORNBEAMLET_REVERSE 1
+/* The kinds of frames. */
+#define HORNBEAMLET_JOB 1
+#define HORNBEAMLET_FIRST_PIECE 2
+#define HORNBEAMLET_SECOND_PIECE 3
+#define HORNBEAMLET_END 4
+#define HORNBEAMLET_FORWARD_ENTRY 16
+#define HORNBEAMLET_DONE 17
+#define HORNBEAMLET_REVERSE_ENTRY 18
+#define HORNBEAMLET_REFUSAL 31
+/* Values of a frame that is read. */
+#define HORNBEAMLET_VALUES 5
+/* Bytes of the longest line, with its line feed. */
+#define HORNBEAMLET_LINE 135
 
 /*
  * How much work room the job needs. The reply is W, the number of records,
@@ -187,6 +243,24 @@ void hornbeamlet_stopped(uint32_t k, uint32_t b, uint32_t a, uint32_t m,
                          uint32_t *work, size_t work_len,
                          uint32_t row,
                          uint64_t answer[HORNBEAMLET_ANSWER]);
+
+/*
+ * Writes a frame into the front of the line. The reply is its length with the
+ * line feed, and bytes behind it stay as they were; or HORNBEAMLET_REFUSED plus
+ * 27, and all of the line stays as it was.
+ */
+uint64_t hornbeamlet_write_frame(uint32_t kind,
+                                 const uint64_t *values, size_t values_len,
+                                 uint8_t *line, size_t line_len);
+
+/*
+ * Reads a line, line feed included, that is to be a frame of kind 16, 17, 18 or
+ * 31. The reply is 0, and the values are the frame's, then zeros; or 20, 21,
+ * 22, 23 or 25, and the values are zeros.
+ */
+uint64_t hornbeamlet_read_frame(uint32_t kind,
+                                const uint8_t *line, size_t line_len,
+                                uint64_t values[HORNBEAMLET_VALUES]);
 
 #ifdef __cplusplus
 }

@@ -1,9 +1,10 @@
-// The C boundary: the entry points on plain numbers and slices, each slice a pointer and a length. Thin: all is done in `compare`.
+// The C boundary: the entry points on plain numbers and slices, each slice a pointer and a length. Thin: all is done in `compare` and `frames`.
 use rules::Settings;
 ghost use mathlib.Core.Path.{_≡_};
 ghost use Rattle.rules.specs.Entered.{settings};
 ghost use Rattle.rules.specs.Answers.{compared, stopped as stoppedBy, replied};
 ghost use Rattle.answers.specs.Numbers.{answerNumbers};
+ghost use Rattle.frames.specs.Frames.{frameReply, frameLeft, readFrame};
 
 // How many records of work room are needed: W, the larger of both strands, or 4,294,967,296 plus the refusal number 1 to 6 or 9.
 #[no_mangle]
@@ -59,4 +60,20 @@ pub extern "C" fn hornbeamlet_stopped(
 {
     let x = compare::stopped(Settings { k, b, a, m, strand }, first, second, work, row);
     answers::put_answer(answer, x);
+}
+
+// Writes a frame: the length of its line, or 4,294,967,296 plus 27.
+#[no_mangle]
+pub extern "C" fn hornbeamlet_write_frame(kind: u32, values: &[u64], line: &mut [u8]) -> u64
+    ensures { λ r. ⌜ (r ≡ frameReply kind (now (values .entry)) (now (line .entry))) × (now (line .exit) ≡ frameLeft kind (now (values .entry)) (now (line .entry))) ⌝ }
+{
+    frames::write_frame(kind, values, line)
+}
+
+// Reads a line that is to be a frame of this kind: 0 and its values, or what is wrong with it.
+#[no_mangle]
+pub extern "C" fn hornbeamlet_read_frame(kind: u32, line: &[u8], values: &mut [u64; 5]) -> u64
+    ensures { λ r. let o = readFrame kind (now (line .entry)) in ⌜ (r ≡ o .number) × (now (values .exit) ≡ o .values) ⌝ }
+{
+    frames::read_frame(kind, line, values)
 }

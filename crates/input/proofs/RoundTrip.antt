@@ -17,10 +17,10 @@ use Rattle.lines.specs.Writing.{checkOf, frameOf, lineOf}
 use Rattle.decoding.specs.Reading.{frameIn}
 use Rattle.lines.proofs.Storing.{digits-length}
 use Rattle.decoding.proofs.RoundTrip.{Bytes, none, line-bytes, line-read}
-use Rattle.payloads.specs.Pieces.{codeBytes, codesIn, pieceFits}
+use Rattle.payloads.specs.Pieces.{codeBytes, codesIn, codesFit}
 use Rattle.kinds.specs.Kinds.{jobPayload, jobFits, jobLine, pieceLine, endLine}
 use Rattle.readers.specs.Readers.{jobIn}
-use Rattle.payloads.proofs.Pieces.{PieceFits, piece-parts, packed-length, packed-are-bytes, codes-back}
+use Rattle.payloads.proofs.Pieces.{CodesFit, codes-parts, packed-length, packed-are-bytes, codes-back}
 use Rattle.kinds.proofs.Jobs.{JobForm, forward, stranded, job-form, forward-size, stranded-size, job-few, job-are-bytes}
 use Rattle.readers.proofs.RoundTrip.{job-frame}
 use Rattle.pieces.specs.Letters.{isPiece, pieceNumber, lettersIn}
@@ -115,15 +115,12 @@ job-after c h =
 
 -- ---- pieces
 
-module _ (s : ℕ) (x : List ℕ) (fits : pieceFits s x ≡ true) where
-  parts : PieceFits s x
-  parts = piece-parts s x fits
+module _ (x : List ℕ) (fits : codesFit x ≡ true) where
+  parts : CodesFit x
+  parts = codes-parts x fits
 
   few : length (codeBytes x) ≤ 64
   few = omega (arith, parts .few, packed-length x .1)
-
-  kind-small : 1 + s < 256
-  kind-small = omega (arith, parts .most)
 
   packed : Bytes (codeBytes x)
   packed = packed-are-bytes x (parts .are)
@@ -140,27 +137,27 @@ module _ (s : ℕ) (x : List ℕ) (fits : pieceFits s x ≡ true) where
   unfolding pieceNumber
   piece-number count h = rw (piece-is, codes, le-leb (count + length x) 16384 h)
 
-  letters-back : lettersIn (payloadIn (lineOf (1 + s) (codeBytes x))) ≡ map letterOf x
+  letters-back : (kind : ℕ) → kind < 256 → lettersIn (payloadIn (lineOf kind (codeBytes x))) ≡ map letterOf x
   unfolding lettersIn
-  letters-back = rw (payload-back (1 + s) (codeBytes x) kind-small few packed, codes)
+  letters-back kind k = rw (payload-back kind (codeBytes x) k few packed, codes)
 
 module _ (c : Settings) (x f g : List ℕ) where
-  first-number : pieceFits 1 x ≡ true → length f + length x ≤ 16384 → lineNumber (progress 1 c f g) (pieceLine 1 x) ≡ 0
+  first-number : codesFit x ≡ true → length f + length x ≤ 16384 → lineNumber (progress 1 c f g) (pieceLine 1 x) ≡ 0
   unfolding pieceLine inTurn knownKind payloadNumber
-  first-number fits h = number-back 2 (codeBytes x) (lit< tt) (few 1 x fits) (packed 1 x fits) (progress 1 c f g) refl refl (piece-number 1 x fits (length f) h)
+  first-number fits h = number-back 2 (codeBytes x) (lit< tt) (few x fits) (packed x fits) (progress 1 c f g) refl refl (piece-number x fits (length f) h)
 
-  first-after : pieceFits 1 x ≡ true → after (progress 1 c f g) (pieceLine 1 x) ≡ progress 1 c (f ++ map letterOf x) g
+  first-after : codesFit x ≡ true → after (progress 1 c f g) (pieceLine 1 x) ≡ progress 1 c (f ++ map letterOf x) g
   unfolding pieceLine after
-  first-after fits = rw (letters-back 1 x fits, line-read 2 (codeBytes x) (lit< tt) (few 1 x fits) (packed 1 x fits))
+  first-after fits = rw (letters-back x fits 2 (lit< tt), line-read 2 (codeBytes x) (lit< tt) (few x fits) (packed x fits))
 
-  second-number : (t : ℕ) → eqb t 1 || eqb t 2 ≡ true → pieceFits 2 x ≡ true → length g + length x ≤ 16384 → lineNumber (progress t c f g) (pieceLine 2 x) ≡ 0
+  second-number : (t : ℕ) → eqb t 1 || eqb t 2 ≡ true → codesFit x ≡ true → length g + length x ≤ 16384 → lineNumber (progress t c f g) (pieceLine 2 x) ≡ 0
   unfolding pieceLine inTurn knownKind payloadNumber
   second-number t o fits h =
-      number-back 3 (codeBytes x) (lit< tt) (few 2 x fits) (packed 2 x fits) (progress t c f g) o refl (piece-number 2 x fits (length g) h)
+      number-back 3 (codeBytes x) (lit< tt) (few x fits) (packed x fits) (progress t c f g) o refl (piece-number x fits (length g) h)
 
-  second-after : (t : ℕ) → pieceFits 2 x ≡ true → after (progress t c f g) (pieceLine 2 x) ≡ progress 2 c f (g ++ map letterOf x)
+  second-after : (t : ℕ) → codesFit x ≡ true → after (progress t c f g) (pieceLine 2 x) ≡ progress 2 c f (g ++ map letterOf x)
   unfolding pieceLine after
-  second-after t fits = rw (letters-back 2 x fits, line-read 3 (codeBytes x) (lit< tt) (few 2 x fits) (packed 2 x fits))
+  second-after t fits = rw (letters-back x fits 3 (lit< tt), line-read 3 (codeBytes x) (lit< tt) (few x fits) (packed x fits))
 
 -- ---- an end
 
@@ -182,11 +179,11 @@ end-after p = rw (line-read 4 [] (lit< tt) zero-le none)
 abbrev pub letters : List (List ℕ) → List ℕ
 letters xs = laid (map letterOf) xs
 
-abbrev pub Fit : ℕ → List (List ℕ) → Type 0
-Fit s xs = (x : List ℕ) → List·Memᴰ x xs → pieceFits s x ≡ true
+abbrev pub Fit : List (List ℕ) → Type 0
+Fit xs = (x : List ℕ) → List·Memᴰ x xs → codesFit x ≡ true
 
 module _ (c : Settings) where
-  firsts : (xs : List (List ℕ)) (f g : List ℕ) (count : ℕ) (rest : List ℕ) → Fit 1 xs → length f + length (letters xs) ≤ 16384
+  firsts : (xs : List (List ℕ)) (f g : List ℕ) (count : ℕ) (rest : List ℕ) → Fit xs → length f + length (letters xs) ≤ 16384
       → readLines (progress 1 c f g) count (linesOf (laid (pieceLine 1) xs ++ rest))
       ≡ readLines (progress 1 c (f ++ letters xs) g) (count + length xs) (linesOf rest)
   unfolding laid
@@ -217,7 +214,7 @@ module _ (c : Settings) where
       let p = progress t c f g in
       ap (readLines p count) end-found ∙ line-on p count (lineOf 4 []) [] (end-number p o) ∙ ap (λ (r : Progress). readLines r (suc count) []) (end-after p)
 
-  seconds : (ys : List (List ℕ)) (t : ℕ) (f g : List ℕ) (count : ℕ) → eqb t 1 || eqb t 2 ≡ true → Fit 2 ys → length g + length (letters ys) ≤ 16384
+  seconds : (ys : List (List ℕ)) (t : ℕ) (f g : List ℕ) (count : ℕ) → eqb t 1 || eqb t 2 ≡ true → Fit ys → length g + length (letters ys) ≤ 16384
       → readLines (progress t c f g) count (linesOf (laid (pieceLine 2) ys ++ endLine))
       ≡ record {
         answer = record {
@@ -247,7 +244,7 @@ module _ (c : Settings) where
       ∙ rw (append-assoc g (map letterOf y) (letters ys))
 
 -- a job, pieces of any sizes and an end, written by our writers, are read back as the same settings and letters
-pub round-trip : (c : Settings) (xs ys : List (List ℕ)) → jobFits c ≡ true → Fit 1 xs → Fit 2 ys → length (letters xs) ≤ 16384 → length (letters ys) ≤ 16384
+pub round-trip : (c : Settings) (xs ys : List (List ℕ)) → jobFits c ≡ true → Fit xs → Fit ys → length (letters xs) ≤ 16384 → length (letters ys) ≤ 16384
     → inputOf (jobLine c ++ (laid (pieceLine 1) xs ++ (laid (pieceLine 2) ys ++ endLine)))
     ≡ record {
       answer = record { number = 0; line = 0; settings = c; first = length (letters xs); second = length (letters ys) };

@@ -1,15 +1,20 @@
--- Document 01, "Examples in the registry": the lines of P1 through `chain`, and of k 0. CR 1: those that P1 over both strands has besides. Assumes
--- nothing.
+-- Document 01, "Examples in the registry": the lines of P1 through `chain`, and of k 0. CR 1: those that P1 over both strands has besides. And
+-- when a writer "gives 27 and length 0, slice untouched". Assumes nothing.
 use mathlib.Core.Path.{_≡_, refl}
-use mathlib.Core.Bool.{true, false}
-use mathlib.Core.List.{[], _∷_}
-use Prim.Native.Nat.{ℕ}
+use mathlib.Core.Bool.{Bool, true}
+use mathlib.Core.List.{List, [], _∷_, map}
+use Prim.Native.Nat.{ℕ, _-_}
+use lib.ListN.{length, replicate}
 use Rattle.rules.specs.Lists.{text}
 use Rattle.rules.specs.declared.Settings.{Settings}
 use Rattle.rules.specs.Entered.{settings}
-use Rattle.lines.specs.Writing.{fed}
+use Rattle.lines.specs.declared.Written.{Written}
+use Rattle.lines.specs.Writing.{fed, written, leaves}
+use Rattle.payloads.specs.Pieces.{codesFit}
 use Rattle.kinds.specs.declared.Entry.{Entry}
-use Rattle.kinds.specs.Kinds.{jobFits, jobLine, pieceLine, endLine, entryLine, reverseLine, doneLine, refusedLine}
+use Rattle.kinds.specs.declared.Done.{Done}
+use Rattle.kinds.specs.declared.Refused.{Refused}
+use Rattle.kinds.specs.Kinds.{jobFits, jobLine, pieceLine, endLine, entryFits, entryLine, reverseLine, doneFits, doneLine, refusedFits, refusedLine}
 
 abbrev P1-settings : ℕ → ℕ → Settings
 P1-settings k strand = settings k 2 8 0 strand
@@ -56,11 +61,115 @@ pub job-line-both : jobLine (P1-settings 2 1) ≡ fed (text "0108020002000800000
 unfolding jobLine text
 job-line-both = refl
 
--- 27: a strand above 255 does not fit its field
-pub strand-fits : jobFits (P1-settings 2 255) ∷ jobFits (P1-settings 2 256) ∷ [] ≡ true ∷ false ∷ []
-unfolding jobFits
-strand-fits = refl
-
 pub reverse-line : reverseLine (entry 4) ≡ fed (text "120A00010005000100050004D4")
 unfolding reverseLine text
 reverse-line = refl
+
+-- ---- 27
+
+-- what a writer answers, and the slice afterwards
+pub record Outcome : Type 0 where
+  pub answer : Written
+  pub left : List ℕ
+
+-- what is to be written, into a slice full of dots, and what comes of it
+pub record Row : Type 0 where
+  pub fits : Bool
+  pub line : List ℕ
+  pub room : ℕ
+  pub given : Outcome
+
+abbrev pub dots : ℕ → List ℕ
+dots n = replicate n 46
+
+abbrev pub outcome : Row → Outcome
+unfolding written leaves
+outcome r = record { answer = written (r .fits) (r .line) (dots (r .room)); left = leaves (r .fits) (r .line) (dots (r .room)) }
+
+-- the line fits exactly: 0 and its length
+abbrev pub exactly : Bool → List ℕ → Row
+exactly fits line =
+    record { fits = fits; line = line; room = length line; given = record { answer = record { number = 0; length = length line }; left = line } }
+
+-- 27 in a slice of so many bytes
+abbrev pub refuses-in : ℕ → Bool → List ℕ → Row
+refuses-in room fits line =
+    record { fits = fits; line = line; room = room; given = record { answer = record { number = 27; length = 0 }; left = dots room } }
+
+-- 27 in a slice that holds any line
+abbrev pub refuses : Bool → List ℕ → Row
+refuses fits line = refuses-in 135 fits line
+
+-- 27 in a slice that is one byte short
+abbrev pub short : Bool → List ℕ → Row
+short fits line = refuses-in (length line - 1) fits line
+
+abbrev pub job : (Bool → List ℕ → Row) → Settings → Row
+job answers c = answers (jobFits c) (jobLine c)
+
+abbrev pub piece : (Bool → List ℕ → Row) → ℕ → List ℕ → Row
+piece answers sequence codes = answers (codesFit codes) (pieceLine sequence codes)
+
+-- an entry of either strand
+abbrev pub of-strand : (Bool → List ℕ → Row) → (Entry → List ℕ) → ℕ → ℕ → ℕ → ℕ → ℕ → Row
+of-strand answers line a b c d weight =
+    let x : Entry = record { first = record { start = a; end = b }; second = record { start = c; end = d }; weight = weight } in
+    answers (entryFits x) (line x)
+
+abbrev pub done : (Bool → List ℕ → Row) → ℕ → ℕ → ℕ → ℕ → Row
+done answers listed matches widest links =
+    let x : Done = record { listed = listed; matches = matches; widest = widest; links = links } in
+    answers (doneFits x) (doneLine x)
+
+abbrev pub refused : (Bool → List ℕ → Row) → ℕ → ℕ → ℕ → Row
+refused answers number sequence detail =
+    let x : Refused = record { number = number; sequence = sequence; detail = detail } in
+    answers (refusedFits x) (refusedLine x)
+
+abbrev pub writing-rows : List Row
+writing-rows =
+    -- "a value does not fit its field": each at its field's end, and one past it
+    job exactly (settings 255 65535 65535 65535 255)
+    ∷ job refuses (settings 256 65535 65535 65535 255)
+    ∷ job refuses (settings 255 65536 65535 65535 255)
+    ∷ job refuses (settings 255 65535 65536 65535 255)
+    ∷ job refuses (settings 255 65535 65535 65536 255)
+    ∷ job refuses (settings 255 65535 65535 65535 256)
+    ∷ of-strand exactly entryLine 65535 65535 65535 65535 65535
+    ∷ of-strand refuses entryLine 65536 65535 65535 65535 65535
+    ∷ of-strand refuses entryLine 65535 65536 65535 65535 65535
+    ∷ of-strand refuses entryLine 65535 65535 65536 65535 65535
+    ∷ of-strand refuses entryLine 65535 65535 65535 65536 65535
+    ∷ of-strand refuses entryLine 65535 65535 65535 65535 65536
+    ∷ of-strand exactly reverseLine 65535 65535 65535 65535 65535
+    ∷ of-strand refuses reverseLine 65535 65535 65535 65535 65536
+    ∷ done exactly 4294967295 4294967295 4294967295 18446744073709551615
+    ∷ done refuses 4294967296 4294967295 4294967295 18446744073709551615
+    ∷ done refuses 4294967295 4294967296 4294967295 18446744073709551615
+    ∷ done refuses 4294967295 4294967295 4294967296 18446744073709551615
+    ∷ refused exactly 255 255 4294967295
+    ∷ refused refuses 256 255 4294967295
+    ∷ refused refuses 255 256 4294967295
+    ∷ refused refuses 255 255 4294967296
+    -- "1 to 128 codes from 1 to 15"
+    ∷ piece refuses 1 []
+    ∷ piece exactly 1 (1 ∷ [])
+    ∷ piece exactly 1 (replicate 128 15)
+    ∷ piece refuses 1 (replicate 129 15)
+    ∷ piece refuses 2 (1 ∷ 0 ∷ [])
+    ∷ piece exactly 2 (1 ∷ 15 ∷ [])
+    ∷ piece refuses 2 (1 ∷ 16 ∷ [])
+    -- "the slice is shorter than the line with its line feed"
+    ∷ job short (settings 2 2 8 0 0)
+    ∷ piece short 1 (replicate 128 15)
+    ∷ short true endLine
+    ∷ exactly true endLine
+    ∷ of-strand short entryLine 1 5 1 5 3
+    ∷ of-strand short reverseLine 1 5 1 5 4
+    ∷ done short 1 3 2 2
+    ∷ refused short 1 0 0
+    ∷ []
+
+pub writing-examples : map outcome writing-rows ≡ map (λ (r : Row). r .given) writing-rows
+unfolding written leaves jobFits jobLine codesFit pieceLine endLine entryFits entryLine reverseLine doneFits doneLine refusedFits refusedLine
+writing-examples = refl

@@ -4,7 +4,7 @@ ghost use mathlib.Core.Path.{_≡_};
 ghost use mathlib.Core.List.{_++_};
 ghost use lib.ListN.{length};
 ghost use Rattle.payloads.specs.Numbers.{numberBytes};
-ghost use Rattle.payloads.specs.Pieces.{pieceFits};
+ghost use Rattle.payloads.specs.Pieces.{codesFit};
 ghost use Rattle.kinds.specs.Kinds.{jobNumbers, jobPayload, jobFits, entryPayload, entryFits, donePayload, doneFits, refusedPayload, refusedFits};
 
 // The places of a sequence that an entry spans.
@@ -130,10 +130,9 @@ pub fn refused_payload(refused: Refused) -> [u8; 6]
     payload
 }
 
-// Whether a piece fits a frame: of the first sequence or of the second, 1 to 128 letters, each by a code that is one.
-pub fn piece_fits(sequence: u8, codes: &[u8]) -> bool
-    ensures { λ r. ⌜ r ≡ pieceFits sequence (now (codes .entry)) ⌝ }
+// Whether a piece fits a frame: 1 to 128 letters, each by a code that is one.
+pub fn piece_fits(codes: &[u8]) -> bool
+    ensures { λ r. ⌜ r ≡ codesFit (now (codes .entry)) ⌝ }
 {
-    let fit = (1 <= codes.len()) & (codes.len() <= 128) & payloads::are_codes(codes);
-    ((sequence == 1) | (sequence == 2)) & fit
+    (1 <= codes.len()) & (codes.len() <= 128) & payloads::are_codes(codes)
 }

@@ -35,35 +35,36 @@ sets-last l i (x ∷ xs) y =
     sets-last (set l i x) (suc i) xs y
     ∙ ap (λ (m : List ℕ). sets m (suc i) xs) (ap (λ (n : ℕ). set (set l i x) n y) e ∙ set-comm l i (i + suc (length xs)) x y (λ q. omega arith))
 
--- the last bytes of the number are stored, and what is left of it goes before them
-pub record Filling (before payload : List ℕ) (at width x left rest : ℕ) : Type 0 where
-  pub within : left ≤ width
+-- so many of the number's last bytes are stored, and what is left of it goes before them
+pub record Filling (before payload : List ℕ) (at width x done rest : ℕ) : Type 0 where
+  pub within : done ≤ width
   pub long : length payload ≡ length before
-  pub ahead : sets payload at (numberBytes left rest) ≡ sets before at (numberBytes width x)
+  pub ahead : sets payload at (numberBytes (width - done) rest) ≡ sets before at (numberBytes width x)
 
-pub filling-start : (payload : List ℕ) (at width x : ℕ) → Filling payload payload at width x width x
-filling-start payload at width x = record { within = omega arith; long = refl; ahead = refl }
+pub filling-start : (payload : List ℕ) (at width x : ℕ) → Filling payload payload at width x 0 x
+filling-start payload at width x = let e : width - 0 ≡ width = omega arith in record { within = omega arith; long = refl; ahead = rw e }
 
-pub filling-next : (before payload : List ℕ) (at width x left rest byte : ℕ) → 0 < left → byte ≡ rest % 256
-    → Filling before payload at width x left rest → Filling before (set payload (at + (left - 1)) byte) at width x (left - 1) (rest / 256)
+pub filling-next : (before payload : List ℕ) (at width x done rest byte : ℕ) → done < width → byte ≡ rest % 256
+    → Filling before payload at width x done rest
+    → Filling before (set payload (at + width - (done + 1)) byte) at width x (done + 1) (rest / 256)
 unfolding numberBytes
-filling-next before payload at width x zero rest byte h e r = absurd (omega arith)
-filling-next before payload at width x (suc n) rest byte h e r =
-    let b : suc n - 1 ≡ n = omega arith in
+filling-next before payload at width x done rest byte h e r =
+    let n = width - (done + 1) in
+    let i : at + width - (done + 1) ≡ at + n = omega arith in
+    let s : width - done ≡ suc n = omega arith in
     let l = number-length n (rest / 256) in
-    rw b record {
-      within = omega (arith, r .within);
+    rw i record {
+      within = omega arith;
       long = length-set payload (at + n) byte ∙ r .long;
       ahead =
           ap (λ (m : List ℕ). sets m at (numberBytes n (rest / 256))) (rw (e, l))
-          ∙ sym (sets-last payload at (numberBytes n (rest / 256)) (rest % 256)) ∙ r .ahead;
+          ∙ sym (sets-last payload at (numberBytes n (rest / 256)) (rest % 256)) ∙ (rw s at (r .ahead));
     }
 
-pub filling-end : (before payload : List ℕ) (at width x left rest : ℕ) → left ≤ 0 → Filling before payload at width x left rest
+pub filling-end : (before payload : List ℕ) (at width x done rest : ℕ) → width ≤ done → Filling before payload at width x done rest
     → payload ≡ sets before at (numberBytes width x)
 unfolding numberBytes
-filling-end before payload at width x zero rest h r = r .ahead
-filling-end before payload at width x (suc n) rest h r = absurd (omega arith)
+filling-end before payload at width x done rest h r = let e : width - done ≡ 0 = omega arith in rw e at (r .ahead)
 
 -- ---- reading
 

@@ -1,18 +1,18 @@
 -- Codes in pieces: they are looked at one by one and packed two by two, what is ahead being still to come, and unpacked they are the same. Assumes nothing.
 use mathlib.Core.Path.{_≡_, refl, sym, ap, _∙_}
-use mathlib.Core.Bool.{Bool, true, false, _&&_, _||_}
+use mathlib.Core.Bool.{true, false, _&&_}
 use mathlib.Core.List.{List, [], _∷_}
 use Prim.Native.Nat.{ℕ, zero, suc, _+_, _*_, _/_, _%_, _<_, _≤_}
 use native.Mathlib.Omega.{arith}
 use native.Mathlib.Numerals.{add-one}
-use lib.Dec.{eqb, leb}
+use lib.Dec.{leb}
 use lib.ListN.{length, getD, take, drop, set, length-set, drop-of-length-le}
 use lib.Seq.{sets, take-at, drop-cons, drop-drop, getD-drop}
-use borrow.Author.Tests.{le-leb, lt-leb, leb-true, eqb-true, ne-eqb}
+use borrow.Author.Tests.{le-leb, lt-leb, leb-true, ne-eqb}
 use Rattle.decoding.proofs.Decoding.{and-left, and-right}
 use Rattle.lines.proofs.Storing.{sets-front}
 use Rattle.decoding.proofs.RoundTrip.{Bytes, none, more}
-use Rattle.payloads.specs.Pieces.{allCodes, codeBytes, codesIn, codesFit, pieceFits}
+use Rattle.payloads.specs.Pieces.{allCodes, codeBytes, codesIn, codesFit}
 
 -- ---- are they codes
 
@@ -65,6 +65,9 @@ pub code-small : (codes : List ℕ) (i : ℕ) → allCodes codes ≡ true → ge
 code-small [] i h = omega arith
 code-small (c ∷ cs) zero h = omega (arith, code-parts c cs h .most)
 code-small (c ∷ cs) (suc i) h = code-small cs i (code-parts c cs h .rest)
+
+pub code-low : (codes : List ℕ) (i low : ℕ) → allCodes codes ≡ true → low ≡ getD codes i 0 → low < 16
+code-low codes i low h e = rw e (code-small codes i h)
 
 -- ---- packing
 
@@ -168,32 +171,19 @@ codes-back (a ∷ b ∷ c ∷ rest) h =
 
 -- ---- what fits
 
-pub record PieceFits (sequence : ℕ) (codes : List ℕ) : Type 0 where
-  pub least : 1 ≤ sequence
-  pub most : sequence ≤ 2
+pub record CodesFit (codes : List ℕ) : Type 0 where
   pub some : 1 ≤ length codes
   pub few : length codes ≤ 128
   pub are : allCodes codes ≡ true
 
-sequence-is : (s : ℕ) → eqb s 1 || eqb s 2 ≡ true → (1 ≤ s) × (s ≤ 2)
-sequence-is s h = go (eqb s 1) refl h
-  where
-    go : (t : Bool) → eqb s 1 ≡ t → t || eqb s 2 ≡ true → (1 ≤ s) × (s ≤ 2)
-    go true e k = let z = eqb-true s 1 e in (omega arith, omega arith)
-    go false e k = let z = eqb-true s 2 k in (omega arith, omega arith)
-
-pub piece-parts : (sequence : ℕ) (codes : List ℕ) → pieceFits sequence codes ≡ true → PieceFits sequence codes
-unfolding pieceFits codesFit
-piece-parts s codes h =
+pub codes-parts : (codes : List ℕ) → codesFit codes ≡ true → CodesFit codes
+unfolding codesFit
+codes-parts codes h =
     let a = leb 1 (length codes) in
     let b = leb (length codes) 128 in
-    let f = and-right (eqb s 1 || eqb s 2) (a && b && allCodes codes) h in
-    let q = sequence-is s (and-left (eqb s 1 || eqb s 2) (a && b && allCodes codes) h) in
-    let ab = and-left (a && b) (allCodes codes) f in
+    let ab = and-left (a && b) (allCodes codes) h in
     record {
-      least = q .0;
-      most = q .1;
       some = leb-true 1 (length codes) (and-left a b ab);
       few = leb-true (length codes) 128 (and-right a b ab);
-      are = and-right (a && b) (allCodes codes) f;
+      are = and-right (a && b) (allCodes codes) h;
     }

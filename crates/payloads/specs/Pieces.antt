@@ -1,5 +1,5 @@
 -- Document 01, "Frames": a piece is "two letter codes a byte, high half first; an odd last letter leaves the low half 0". Assumes nothing.
-use mathlib.Core.Bool.{Bool, true, cond, _&&_, _||_}
+use mathlib.Core.Bool.{Bool, true, cond, _&&_}
 use mathlib.Core.List.{List, [], _∷_}
 use Prim.Native.Nat.{ℕ, _+_, _*_, _/_, _%_}
 use lib.Dec.{eqb, leb}
@@ -26,8 +26,3 @@ codesIn (b ∷ c ∷ rest) = b / 16 ∷ b % 16 ∷ codesIn (c ∷ rest)
 unfoldable pub codesFit : List ℕ → Bool
 unfolding allCodes
 codesFit codes = leb 1 (length codes) && leb (length codes) 128 && allCodes codes
-
--- a piece is one of the first sequence or of the second
-unfoldable pub pieceFits : ℕ → List ℕ → Bool
-unfolding codesFit
-pieceFits sequence codes = (eqb sequence 1 || eqb sequence 2) && codesFit codes

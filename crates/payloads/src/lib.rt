@@ -21,11 +21,11 @@ pub fn put_number(payload: &mut [u8], at: usize, width: usize, x: u64)
     requires { ⌜ at + width ≤ length (now payload) ⌝ }
     ensures { λ _. ⌜ now (payload .exit) ≡ sets (now (payload .entry)) at (numberBytes width x) ⌝ }
 {
-    let mut left = width;
+    let mut done: usize = 0;
     let mut rest = x;
-    while 0 < left {
-        left -= 1;
-        payload[at + left] = low_byte(rest);
+    while done < width {
+        done += 1;
+        payload[at + width - done] = low_byte(rest);
         rest = rest >> 8;
     }
 }

@@ -19,12 +19,12 @@ use Rattle.readers.specs.declared.EntryRead.{EntryRead}
 use Rattle.readers.specs.declared.DoneRead.{DoneRead}
 use Rattle.readers.specs.declared.RefusedRead.{RefusedRead}
 use Rattle.payloads.specs.Numbers.{numberBytes, numberAt}
-use Rattle.payloads.specs.Pieces.{codeBytes, codesIn, pieceFits}
+use Rattle.payloads.specs.Pieces.{codeBytes, codesIn, codesFit}
 use Rattle.kinds.specs.Kinds.{jobNumbers, jobPayload, jobFits, jobLine, pieceLine, entryPayload, entryFits, entryLine, reverseLine, donePayload, doneFits, doneLine, refusedPayload, refusedFits, refusedLine}
 use Rattle.payloads.specs.Lines.{kindNumber}
 use Rattle.readers.specs.Readers.{strandIn, jobIn, entryIn, doneIn, refusedIn, readEntryOf, readEntry, readReverse, readDone, readRefused}
 use Rattle.payloads.proofs.Numbers.{number-bytes, number-back}
-use Rattle.payloads.proofs.Pieces.{piece-parts, packed-length, packed-are-bytes, codes-back}
+use Rattle.payloads.proofs.Pieces.{codes-parts, packed-length, packed-are-bytes, codes-back}
 use Rattle.kinds.proofs.Jobs.{jobBytes, JobForm, forward, stranded, job-form, job-few, job-are-bytes}
 
 -- a line has the kind and the size that it was written with
@@ -35,14 +35,14 @@ kind-written kind size payload k h b e = rw (line-read kind payload k h b) (rw (
 
 -- ---- jobs
 
-record JobFits (x : Settings) : Type 0 where
-  k-fits : x .k < 256
-  b-fits : x .b < 65536
-  a-fits : x .a < 65536
-  m-fits : x .m < 65536
-  strand-fits : x .strand < 256
+pub record JobFits (x : Settings) : Type 0 where
+  pub k-fits : x .k < 256
+  pub b-fits : x .b < 65536
+  pub a-fits : x .a < 65536
+  pub m-fits : x .m < 65536
+  pub strand-fits : x .strand < 256
 
-job-parts : (x : Settings) → jobFits x ≡ true → JobFits x
+pub job-parts : (x : Settings) → jobFits x ≡ true → JobFits x
 unfolding jobFits
 job-parts x h =
     let k = ltb (x .k) 256 in
@@ -94,20 +94,21 @@ job-unique x y h g e =
 -- ---- pieces
 
 -- the codes of a written piece, read back, and whose piece it is
-pub piece-codes : (s : ℕ) (x : List ℕ) → pieceFits s x ≡ true → codesIn (codeBytes x) ≡ x
-piece-codes s x h = codes-back x (piece-parts s x h .are)
+pub piece-codes : (x : List ℕ) → codesFit x ≡ true → codesIn (codeBytes x) ≡ x
+piece-codes x h = codes-back x (codes-parts x h .are)
 
-pub piece-unique : (s : ℕ) (x : List ℕ) (t : ℕ) (y : List ℕ) → pieceFits s x ≡ true → pieceFits t y ≡ true → pieceLine s x ≡ pieceLine t y → (s ≡ t) × (x ≡ y)
+pub piece-unique : (s : ℕ) (x : List ℕ) (t : ℕ) (y : List ℕ) → s ≤ 2 → t ≤ 2 → codesFit x ≡ true → codesFit y ≡ true → pieceLine s x ≡ pieceLine t y
+    → (s ≡ t) × (x ≡ y)
 unfolding pieceLine
-piece-unique s x t y h g e =
-    let p = piece-parts s x h in
-    let q = piece-parts t y g in
-    let a : 1 + s < 256 = omega (arith, p .most) in
-    let b : 1 + t < 256 = omega (arith, q .most) in
+piece-unique s x t y l m h g e =
+    let p = codes-parts x h in
+    let q = codes-parts y g in
+    let a : 1 + s < 256 = omega arith in
+    let b : 1 + t < 256 = omega arith in
     let c : length (codeBytes x) ≤ 64 = omega (arith, p .few, packed-length x .1) in
     let d : length (codeBytes y) ≤ 64 = omega (arith, q .few, packed-length y .1) in
     let u = line-unique (1 + s) (codeBytes x) (1 + t) (codeBytes y) a c (packed-are-bytes x (p .are)) b d (packed-are-bytes y (q .are)) e in
-    (omega (arith, u .0), sym (piece-codes s x h) ∙ ap codesIn (u .1) ∙ piece-codes t y g)
+    (omega (arith, u .0), sym (piece-codes x h) ∙ ap codesIn (u .1) ∙ piece-codes y g)
 
 -- ---- entries
 

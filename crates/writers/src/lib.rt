@@ -9,7 +9,7 @@ ghost use mathlib.Core.Bool.{true, _&&_};
 ghost use lib.Dec.{leb};
 ghost use lib.ListN.{length};
 ghost use Rattle.lines.specs.Writing.{lineOf, written, leaves};
-ghost use Rattle.payloads.specs.Pieces.{pieceFits};
+ghost use Rattle.payloads.specs.Pieces.{codeBytes, codesFit};
 ghost use Rattle.kinds.specs.Kinds.{jobFits, jobLine, pieceLine, endLine, entryPayload, entryFits, entryLine, reverseLine, doneFits, doneLine, refusedFits, refusedLine};
 
 // The line of a kind, where its values fit.
@@ -88,18 +88,34 @@ pub fn write_end(out: &mut [u8]) -> Written
     lines::write_line(0x04, &payload, out)
 }
 
-// A piece of the first sequence or of the second, by its letters' codes.
-pub fn write_piece(sequence: u8, codes: &[u8], out: &mut [u8]) -> Written
-    ensures { λ r. ⌜ r ≡ written (pieceFits sequence (now (codes .entry))) (pieceLine sequence (now (codes .entry))) (now (out .entry)) ⌝ }
-    ensures { λ _. ⌜ now (out .exit) ≡ leaves (pieceFits sequence (now (codes .entry))) (pieceLine sequence (now (codes .entry))) (now (out .entry)) ⌝ }
+// A piece of the kind that tells its sequence, by its letters' codes.
+fn write_piece_of(kind: u8, codes: &[u8], out: &mut [u8]) -> Written
+    ensures { λ r. ⌜ r ≡ written (codesFit (now (codes .entry))) (lineOf kind (codeBytes (now (codes .entry)))) (now (out .entry)) ⌝ }
+    ensures { λ _. ⌜ now (out .exit) ≡ leaves (codesFit (now (codes .entry))) (lineOf kind (codeBytes (now (codes .entry)))) (now (out .entry)) ⌝ }
 {
-    if kinds::piece_fits(sequence, codes) {
+    if kinds::piece_fits(codes) {
         let mut payload = [0u8; 64];
         let n = payloads::pack(codes, &mut payload);
-        return lines::write_line(1 + sequence, &payload[..n], out);
+        return lines::write_line(kind, &payload[..n], out);
     }
     Written {
         number: 27,
         length: 0,
     }
+}
+
+// A piece of the first sequence.
+pub fn write_first_piece(codes: &[u8], out: &mut [u8]) -> Written
+    ensures { λ r. ⌜ r ≡ written (codesFit (now (codes .entry))) (pieceLine 1 (now (codes .entry))) (now (out .entry)) ⌝ }
+    ensures { λ _. ⌜ now (out .exit) ≡ leaves (codesFit (now (codes .entry))) (pieceLine 1 (now (codes .entry))) (now (out .entry)) ⌝ }
+{
+    write_piece_of(0x02, codes, out)
+}
+
+// A piece of the second sequence.
+pub fn write_second_piece(codes: &[u8], out: &mut [u8]) -> Written
+    ensures { λ r. ⌜ r ≡ written (codesFit (now (codes .entry))) (pieceLine 2 (now (codes .entry))) (now (out .entry)) ⌝ }
+    ensures { λ _. ⌜ now (out .exit) ≡ leaves (codesFit (now (codes .entry))) (pieceLine 2 (now (codes .entry))) (now (out .entry)) ⌝ }
+{
+    write_piece_of(0x03, codes, out)
 }

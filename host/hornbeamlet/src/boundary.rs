@@ -95,6 +95,10 @@ calls! {
         row: u32,
         answer: &mut [u64; 7],
     );
+
+    fn hornbeamlet_write_frame(kind: u32, values: &[u64], line: &mut [u8]) -> u64;
+
+    fn hornbeamlet_read_frame(kind: u32, line: &[u8], values: &mut [u64; 5]) -> u64;
 }
 
 impl Library {
@@ -130,6 +134,23 @@ impl Library {
         row: u32,
     ) -> Answer {
         answered(|answer| hornbeamlet_stopped(settings, first, second, work, row, answer))
+    }
+
+    /// A frame written as a line to the front of the slice; the bytes behind it
+    /// stay. The reply is the length with the line feed, at most [`crate::LINE`],
+    /// or [`crate::REFUSED`] plus 27 with the slice as it was: a value does not
+    /// fit its field, the slice is too short, or [`crate::kinds`] has no such kind
+    /// with so many values.
+    pub fn write_frame(&self, kind: u32, values: &[u64], line: &mut [u8]) -> u64 {
+        hornbeamlet_write_frame(kind, values, line)
+    }
+
+    /// The values of a frame of this kind, zeros behind them, from a line with
+    /// its line feed, which has to be the whole slice. The reply is 0, or a
+    /// refusal with all values 0: 20, 21, 22, 23, 25. Kinds that have a reader
+    /// are an entry, a reverse entry, done and refused; any other gets 23.
+    pub fn read_frame(&self, kind: u32, line: &[u8], values: &mut [u64; 5]) -> u64 {
+        hornbeamlet_read_frame(kind, line, values)
     }
 }
 

@@ -18,6 +18,8 @@
 
 mod boundary;
 #[forbid(unsafe_code)]
+pub mod kinds;
+#[forbid(unsafe_code)]
 mod listing;
 #[forbid(unsafe_code)]
 mod stack;
@@ -29,7 +31,9 @@ pub use stack::{with_library, Library};
 pub const RECORD: usize = 8;
 /// Numbers of list room in one entry.
 pub const ENTRY: usize = 6;
-/// What `need` adds to the number of a refusal.
+/// Bytes of the longest line of a frame, with its line feed.
+pub const LINE: usize = 135;
+/// What `need` and `write_frame` add to the number of a refusal.
 pub const REFUSED: u64 = 4_294_967_296;
 
 /// The strand setting for the second sequence as it stands.

@@ -1,5 +1,5 @@
-/* P1 and P4 of the document, forward and over both strands, asked from C
- * through the header alone. */
+/* P1 and P4 of the document, forward and over both strands, and P1's done frame,
+ * asked from C through the header alone. */
 #include "hornbeamlet.h"
 
 #include <stdio.h>
@@ -51,6 +51,31 @@ static void stopped(uint32_t strand)
     print_numbers(work + 8, 3);
 }
 
+static void read_frame(uint32_t kind, const uint8_t *line, size_t line_len)
+{
+    uint64_t values[HORNBEAMLET_VALUES];
+    int i;
+    printf("%lu", (unsigned long)hornbeamlet_read_frame(kind, line, line_len,
+                                                        values));
+    for (i = 0; i < HORNBEAMLET_VALUES; i++)
+        printf(" %lu", (unsigned long)values[i]);
+    printf("\n");
+}
+
+static void done_frame(void)
+{
+    static const uint64_t tallies[] = {1, 3, 2, 2};
+    uint8_t line[HORNBEAMLET_LINE];
+    size_t len = (size_t)hornbeamlet_write_frame(HORNBEAMLET_DONE, tallies, 4,
+                                                 line, sizeof line);
+    printf("%.*s", (int)len, (const char *)line);
+    read_frame(HORNBEAMLET_DONE, line, len);
+    read_frame(HORNBEAMLET_FORWARD_ENTRY, line, len);
+    printf("%d\n", hornbeamlet_write_frame(HORNBEAMLET_DONE, tallies, 4, line,
+                                           len - 1)
+                       == HORNBEAMLET_REFUSED + 27);
+}
+
 int main(void)
 {
     printf("%lu %lu\n", (unsigned long)need(2, HORNBEAMLET_FORWARD),
@@ -63,5 +88,6 @@ int main(void)
     compare(HORNBEAMLET_BOTH, 23);
     stopped(HORNBEAMLET_FORWARD);
     stopped(HORNBEAMLET_REVERSE);
+    done_frame();
     return 0;
 }

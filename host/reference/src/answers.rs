@@ -11,9 +11,9 @@ pub const LONGEST: usize = 16_384;
 const RECORD: usize = 8;
 /// "List room now counts six numbers an entry."
 pub const ENTRY: usize = 6;
-/// What `need` adds to a refusal number: "4,294,967,296 plus the refusal
-/// number 1 to 6", and 9 "also over the C boundary".
-const REFUSED_NEED: u64 = 4_294_967_296;
+/// What a reply over the C boundary adds to a refusal number: "4,294,967,296
+/// plus the refusal number 1 to 6", and 9 "also over the C boundary".
+pub(crate) const REFUSED_REPLY: u64 = 4_294_967_296;
 
 /// The strands, as the sixth number of an entry names them.
 const FORWARD: u32 = 0;
@@ -124,7 +124,7 @@ pub fn stopped(
 /// refusal number 1 to 6" or 9. Over both strands it is "the larger W".
 pub fn need(settings: Settings, first: &[u8], second: &[u8]) -> u64 {
     match check_inputs(settings, first, second) {
-        Err(refusal) => REFUSED_NEED + refusal.number,
+        Err(refusal) => REFUSED_REPLY + refusal.number,
         Ok(()) => larger_need(&jobs(settings, first, second)),
     }
 }

@@ -1,7 +1,5 @@
 //! Lines of hexadecimal, one frame a line: writers, and readers of one line.
 
-use crate::answers::Settings;
-
 /// "01 job".
 pub const JOB: u8 = 0x01;
 /// "02 [...] piece of the first [...] sequence".
@@ -33,23 +31,24 @@ const REFUSED_FIELDS: [usize; 3] = [1, 1, 4];
 
 const CAPITAL_DIGITS: &[u8; 16] = b"0123456789ABCDEF";
 
-/// The writer of a job: without its strand where that is 0, which a job of 7
-/// payload bytes means.
-pub fn write_job(settings: Settings, lent: &mut [u8]) -> (u64, usize) {
-    let Settings { k, b, a, m, strand } = settings;
+/// The writer of a job, k, b, a, m and strand: without its strand where that is
+/// 0, which a job of 7 payload bytes means.
+pub fn write_job([k, b, a, m, strand]: [u64; 5], lent: &mut [u8]) -> (u64, usize) {
     let payload = match strand {
-        0 => fields([k, b, a, m].map(u64::from), JOB_FIELDS),
-        _ => fields([k, b, a, m, strand].map(u64::from), STRAND_JOB_FIELDS),
+        0 => fields([k, b, a, m], JOB_FIELDS),
+        _ => fields([k, b, a, m, strand], STRAND_JOB_FIELDS),
     };
     lay(JOB, payload, lent)
 }
 
-/// The writer of a piece of the first sequence (kind 2) or the second (kind 3).
-/// Another kind gives 27 too.
-pub fn write_piece(kind: u8, codes: &[u8], lent: &mut [u8]) -> (u64, usize) {
-    let of_pieces = kind == FIRST_PIECE || kind == SECOND_PIECE;
-    let payload = piece(codes).filter(|_| of_pieces);
-    lay(kind, payload, lent)
+/// The writer of a piece of the first sequence.
+pub fn write_first_piece(codes: &[u64], lent: &mut [u8]) -> (u64, usize) {
+    lay(FIRST_PIECE, piece(codes), lent)
+}
+
+/// The writer of a piece of the second sequence.
+pub fn write_second_piece(codes: &[u64], lent: &mut [u8]) -> (u64, usize) {
+    lay(SECOND_PIECE, piece(codes), lent)
 }
 
 /// The writer of an end.
@@ -58,17 +57,13 @@ pub fn write_end(lent: &mut [u8]) -> (u64, usize) {
 }
 
 /// The writer of a forward entry: p, i + k - 1, q, j + k - 1, weight.
-pub fn write_entry(values: [u32; 5], lent: &mut [u8]) -> (u64, usize) {
-    lay_entry(ENTRY, values, lent)
+pub fn write_entry(values: [u64; 5], lent: &mut [u8]) -> (u64, usize) {
+    lay(ENTRY, fields(values, ENTRY_FIELDS), lent)
 }
 
 /// The writer of a reverse entry: the same five numbers, turned back.
-pub fn write_reverse_entry(values: [u32; 5], lent: &mut [u8]) -> (u64, usize) {
-    lay_entry(REVERSE_ENTRY, values, lent)
-}
-
-fn lay_entry(kind: u8, values: [u32; 5], lent: &mut [u8]) -> (u64, usize) {
-    lay(kind, fields(values.map(u64::from), ENTRY_FIELDS), lent)
+pub fn write_reverse_entry(values: [u64; 5], lent: &mut [u8]) -> (u64, usize) {
+    lay(REVERSE_ENTRY, fields(values, ENTRY_FIELDS), lent)
 }
 
 /// The writer of a done frame: listed, M, W, link total.
@@ -134,14 +129,14 @@ fn fields<const N: usize>(values: [u64; N], sizes: [usize; N]) -> Option<Vec<u8>
 /// "1 to 64 bytes, two letter codes a byte, high half first; an odd last letter
 /// leaves the low half 0". None where "a piece's letters are not 1 to 128 codes
 /// from 1 to 15".
-fn piece(codes: &[u8]) -> Option<Vec<u8>> {
+fn piece(codes: &[u64]) -> Option<Vec<u8>> {
     let counted = (1..=128).contains(&codes.len());
     let known = codes.iter().all(|code| (1..=15).contains(code));
     if !(counted && known) {
         return None;
     }
-    let byte = |pair: &[u8]| pair[0] * 16 + pair.get(1).unwrap_or(&0);
-    Some(codes.chunks(2).map(byte).collect())
+    let byte = |pair: &[u64]| pair[0] * 16 + pair.get(1).unwrap_or(&0);
+    Some(codes.chunks(2).map(|pair| byte(pair) as u8).collect())
 }
 
 /// What a reader gives: "20, 21, 22, 23 (another kind), 25, in that order, with

@@ -14,6 +14,7 @@
 #![forbid(unsafe_code)]
 
 pub mod answers;
+pub mod boundary;
 pub mod calls;
 pub mod chains;
 pub mod frames;
@@ -23,8 +24,9 @@ pub mod program;
 pub mod random;
 
 pub use answers::{compare, need, stopped, Answer, Settings};
+pub use boundary::{read_frame, write_frame};
 pub use frames::{
     read_done, read_entry, read_refused, read_reverse_entry, write_done, write_end, write_entry,
-    write_job, write_piece, write_refused, write_reverse_entry, Reading,
+    write_first_piece, write_job, write_refused, write_reverse_entry, write_second_piece, Reading,
 };
 pub use program::chain;

@@ -48,7 +48,7 @@ fn listing(answer: &Answer, list: &[u32]) -> Vec<u8> {
 /// "Frame kind 12 [...] carries a reverse entry's five numbers, kind 10 stays
 /// forward".
 fn entry_line(entry: &[u32]) -> Vec<u8> {
-    let values = [entry[0], entry[1], entry[2], entry[3], entry[4]];
+    let values = [entry[0], entry[1], entry[2], entry[3], entry[4]].map(u64::from);
     match entry[5] {
         0 => written(|lent| write_entry(values, lent)),
         _ => written(|lent| write_reverse_entry(values, lent)),

@@ -1,8 +1,9 @@
 //! Writers, readers and the input refusals 20 to 26.
 
 use reference::{
-    chain, read_done, read_entry, read_refused, read_reverse_entry, write_done, write_end,
-    write_entry, write_job, write_piece, write_refused, write_reverse_entry, Reading, Settings,
+    chain, read_done, read_entry, read_frame, read_refused, read_reverse_entry, write_done,
+    write_end, write_entry, write_first_piece, write_frame, write_job, write_refused,
+    write_reverse_entry, write_second_piece, Reading,
 };
 
 const JOB_LINE: &[u8] = b"010702000200080000EC\n";
@@ -32,27 +33,19 @@ fn declines(writer: impl Fn(&mut [u8]) -> (u64, usize)) {
     declines_in(writer, 200);
 }
 
-fn job(k: u32, b: u32, a: u32, m: u32) -> Settings {
-    job_on(0, [k, b, a, m])
-}
-
-fn job_on(strand: u32, [k, b, a, m]: [u32; 4]) -> Settings {
-    Settings { k, b, a, m, strand }
-}
-
 #[test]
 fn the_worked_frames_are_written() {
-    writes(|lent| write_job(job(2, 2, 8, 0), lent), JOB_LINE);
+    writes(|lent| write_job([2, 2, 8, 0, 0], lent), JOB_LINE);
     writes(
-        |lent| write_job(job(0, 2, 8, 0), lent),
+        |lent| write_job([0, 2, 8, 0, 0], lent),
         b"010700000200080000EE\n",
     );
     writes(
-        |lent| write_piece(2, &[1, 2, 2, 4, 8], lent),
+        |lent| write_first_piece(&[1, 2, 2, 4, 8], lent),
         b"020312248045\n",
     );
     writes(
-        |lent| write_piece(3, &[1, 2, 4, 4, 8], lent),
+        |lent| write_second_piece(&[1, 2, 4, 4, 8], lent),
         b"030312448024\n",
     );
     writes(write_end, b"0400FC\n");
@@ -67,19 +60,19 @@ fn the_worked_frames_are_written() {
 
 #[test]
 fn a_strand_that_is_not_0_is_written_at_the_end_of_its_job() {
-    let on = |strand| move |lent: &mut [u8]| write_job(job_on(strand, [2, 2, 8, 0]), lent);
+    let on = |strand| move |lent: &mut [u8]| write_job([2, 2, 8, 0, strand], lent);
     writes(on(0), JOB_LINE);
     writes(on(1), b"01080200020008000001EA\n");
     writes(on(2), b"01080200020008000002E9\n");
     writes(on(255), b"010802000200080000FFEC\n");
     declines(on(256));
-    declines(on(u32::MAX));
+    declines(on(u64::MAX));
 }
 
 #[test]
 fn the_longest_piece_is_written() {
     let mut lent = [0; 135];
-    assert_eq!(write_piece(2, &[15; 128], &mut lent), (0, 135));
+    assert_eq!(write_first_piece(&[15; 128], &mut lent), (0, 135));
     assert_eq!(&lent[..6], b"0240FF");
     assert_eq!(lent[134], b'\n');
 }
@@ -87,16 +80,16 @@ fn the_longest_piece_is_written() {
 #[test]
 fn a_check_of_zero_is_written() {
     // 02 + 01 + FD = 256
-    writes(|lent| write_piece(2, &[15, 13], lent), b"0201FD00\n");
+    writes(|lent| write_first_piece(&[15, 13], lent), b"0201FD00\n");
 }
 
 #[test]
 fn values_that_do_not_fit_give_27() {
     let over = 65_536;
-    declines(|lent| write_job(job(256, 0, 0, 0), lent));
-    declines(|lent| write_job(job(0, over, 0, 0), lent));
-    declines(|lent| write_job(job(0, 0, over, 0), lent));
-    declines(|lent| write_job(job(0, 0, 0, over), lent));
+    declines(|lent| write_job([256, 0, 0, 0, 0], lent));
+    declines(|lent| write_job([0, over, 0, 0, 0], lent));
+    declines(|lent| write_job([0, 0, over, 0, 0], lent));
+    declines(|lent| write_job([0, 0, 0, over, 0], lent));
     for at in 0..5 {
         let mut values = [65_535; 5];
         assert_eq!(write_entry(values, &mut [0; 27]), (0, 27));
@@ -121,12 +114,12 @@ fn values_that_do_not_fit_give_27() {
 
 #[test]
 fn pieces_that_are_none_give_27() {
-    declines(|lent| write_piece(2, &[], lent));
-    declines(|lent| write_piece(2, &[1; 129], lent));
-    declines(|lent| write_piece(3, &[1, 0], lent));
-    declines(|lent| write_piece(3, &[16], lent));
-    declines(|lent| write_piece(4, &[1], lent));
-    declines_in(|lent| write_piece(2, &[1], lent), 0);
+    declines(|lent| write_first_piece(&[], lent));
+    declines(|lent| write_first_piece(&[1; 129], lent));
+    declines(|lent| write_second_piece(&[1, 0], lent));
+    declines(|lent| write_second_piece(&[16], lent));
+    declines(|lent| write_first_piece(&[257], lent));
+    declines_in(|lent| write_first_piece(&[1], lent), 0);
 }
 
 fn reading<const N: usize>(number: u64, values: [u64; N]) -> Reading<N> {
@@ -184,6 +177,86 @@ fn readers_refuse_in_order() {
     assert_eq!(read_reverse_entry(ENTRY_LINE).number, 23);
     assert_eq!(read_reverse_entry(b"1200EE\n").number, 25);
     assert_eq!(read_refused(b"1F0100E0\n").number, 25);
+}
+
+/// Each kind by its number, with the values of its worked line.
+const BY_NUMBER: [(u32, &[u64], &[u8]); 8] = [
+    (1, &[2, 2, 8, 0, 0], JOB_LINE),
+    (2, &[1, 2, 2, 4, 8], b"020312248045\n"),
+    (3, &[1, 2, 4, 4, 8], b"030312448024\n"),
+    (4, &[], b"0400FC\n"),
+    (16, &[1, 5, 1, 5, 3], ENTRY_LINE),
+    (17, &[1, 3, 2, 2], DONE_LINE),
+    (18, &[1, 5, 1, 5, 3], REVERSE_LINE),
+    (31, &[1, 0, 0], REFUSED_LINE),
+];
+const NOT_WRITTEN: u64 = 4_294_967_296 + 27;
+
+#[test]
+fn the_kind_names_the_writer() {
+    for (kind, values, line) in BY_NUMBER {
+        let mut lent = [b'?'; 50];
+        let length = line.len();
+        assert_eq!(write_frame(kind, values, &mut lent), length as u64);
+        assert_eq!(&lent[..length], line);
+        assert_eq!(&lent[length..], &[b'?'; 50][length..]);
+        let mut short = vec![b'?'; length - 1];
+        assert_eq!(write_frame(kind, values, &mut short), NOT_WRITTEN);
+        assert_eq!(short, vec![b'?'; length - 1]);
+    }
+}
+
+#[test]
+fn another_kind_or_count_of_values_has_no_writer() {
+    let declines = |kind, values: &[u64]| {
+        let mut lent = [b'?'; 200];
+        assert_eq!(write_frame(kind, values, &mut lent), NOT_WRITTEN);
+        assert_eq!(lent, [b'?'; 200]);
+    };
+    for (kind, values, _) in BY_NUMBER {
+        declines(kind + 256, values);
+        if ![2, 3].contains(&kind) {
+            declines(kind, &[values, &[1]].concat());
+            declines(kind, &[1; 2]);
+        }
+    }
+    for kind in [0, 5, 15, 19, 30, 32, u32::MAX] {
+        for count in 0..7 {
+            declines(kind, &vec![1; count]);
+        }
+    }
+}
+
+#[test]
+fn the_kind_names_the_reader() {
+    for asked in [0, 1, 2, 3, 4, 16, 17, 18, 31, 272, u32::MAX] {
+        for (kind, values, line) in BY_NUMBER {
+            let mut read = [7; 5];
+            let number = read_frame(asked, line, &mut read);
+            let mut expected = [0; 5];
+            if asked == kind && kind > 4 {
+                expected[..values.len()].copy_from_slice(values);
+                assert_eq!((number, read), (0, expected));
+            } else {
+                assert_eq!((number, read), (23, expected));
+            }
+        }
+    }
+}
+
+#[test]
+fn what_is_wrong_with_a_line_leaves_no_values() {
+    for (asked, line, number) in [
+        (16, &ENTRY_LINE[..26], 20),
+        (17, b"11130000000100000003000000020000000000000002D3\n", 21),
+        (18, b"120A00010005000100050003D6\n", 22),
+        (31, b"1F00E1\n", 25),
+        (32, b"1F00", 23),
+    ] {
+        let mut read = [7; 5];
+        assert_eq!(read_frame(asked, line, &mut read), number);
+        assert_eq!(read, [0; 5]);
+    }
 }
 
 /// A line of any bytes with the right check.
@@ -311,7 +384,7 @@ fn the_rooms_that_chain_lends() {
     // closed. 9 rows of 37 are 333, and 2,000 numbers of list room hold just so
     // many entries of six; a C at the end of both is one match more.
     let job = line_of(&[1, 7, 1, 0, 1, 4, 0, 0, 0]);
-    let apart = |end: &[u8]| {
+    let apart = |end: &[u64]| {
         let rows = piece(2, &[&[A, N].repeat(9), end].concat());
         let columns = piece(3, &[&[A, N].repeat(37), end].concat());
         format!("{job}{rows}{columns}{END}")
@@ -322,13 +395,13 @@ fn the_rooms_that_chain_lends() {
 }
 
 /// The codes of three letters.
-const A: u8 = 1;
-const C: u8 = 2;
-const N: u8 = 15;
+const A: u64 = 1;
+const C: u64 = 2;
+const N: u64 = 15;
 
 /// A piece of the letters of these codes.
-fn piece(kind: u8, codes: &[u8]) -> String {
+fn piece(kind: u32, codes: &[u64]) -> String {
     let mut lent = [0; 135];
-    let (_, length) = write_piece(kind, codes, &mut lent);
-    String::from_utf8(lent[..length].to_vec()).unwrap()
+    let length = write_frame(kind, codes, &mut lent);
+    String::from_utf8(lent[..length as usize].to_vec()).unwrap()
 }

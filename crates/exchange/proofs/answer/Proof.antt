@@ -1,5 +1,6 @@
 -- `exchange::answer` meets its contract: the input is read, and its refusal or its job is written. Assumes nothing.
 use mathlib.Core.Path.{sym}
+use native.Mathlib.Omega.{arith}
 use lib.Seq.{length-take-le}
 use Rattle.exchange.specs.Whole.{inputRefusal}
 use Rattle.exchange.proofs.Bounded.{refusal-fits, first-count, second-count, front-fits, front-letters, short-output, long-output}
@@ -28,14 +29,7 @@ reading c = c .before .before .before .before
 returns : tie.Need-returns
 returns c =
     let a = c .before .before .before .args in
-    short-output (a .input .now) (a .output .now) (a .output .now) 0 (c .if1 .taken)
-
-put-refused-requires : tie.Need-put-refused-requires
-unfolding inputRefusal
-put-refused-requires c κs =
-    let p = reading-2 (c .before) in
-    let r = p .read-input in
-    (refusal-fits (entry p .args .input .now) (r .result) (r .ensures .0), long-enough p .if1 .left)
+    short-output (a .input .now) (a .output .now) (a .output .now) 0 (omega (arith, c .if1 .taken))
 
 returns-2 : tie.Need-returns-2
 unfolding inputRefusal
@@ -49,6 +43,13 @@ returns-2 c =
     long-output (a .input .now) (a .output .now) (w .last .1 .0) (w .result) _ (long-enough p .if1 .left)
     (refused-lines (a .input .now) (a .output .now) (w .last .1 .0) (w .result) (r .result) (r .ensures .0) (refused .if2 .taken))
     (w .ensures .0) (w .ensures .1)
+
+put-refused-requires : tie.Need-put-refused-requires
+unfolding inputRefusal
+put-refused-requires c κs =
+    let p = reading-2 (c .before) in
+    let r = p .read-input in
+    (refusal-fits (entry p .args .input .now) (r .result) (r .ensures .0), long-enough p .if1 .left)
 
 array-share-prefix-first : tie.Need-array-share-prefix-first
 array-share-prefix-first c =

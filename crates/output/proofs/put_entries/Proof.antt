@@ -15,15 +15,6 @@ abbrev μ-loop : tie.MeasureT-loop
 loop-holds : tie.Need-loop-holds Inv-loop μ-loop
 loop-holds c = writing-start
 
-add-at : tie.Need-add-at Inv-loop μ-loop
-add-at c =
-    let written = c .before .before .before in
-    let n = written .before .before in
-    let l = n .before in
-    let s = l .before .before .before in
-    let w = written .put-entry in
-    omega (arith, writing-length (s .pre) (l .loop .inv) (n .loop-test .taken) (w .ensures .0) (w .ensures .1), s .pre .few, l .loop .inv .place)
-
 loop-again : tie.Need-loop-again Inv-loop μ-loop
 loop-again c =
     let written = c .before .before .before in
@@ -32,6 +23,15 @@ loop-again c =
     let s = l .before .before .before in
     let w = written .put-entry in
     writing-next (s .pre) (l .loop .inv) (n .loop-test .taken) (w .ensures .0) (w .ensures .1)
+
+add-at : tie.Need-add-at Inv-loop μ-loop
+add-at c =
+    let written = c .before .before .before in
+    let n = written .before .before in
+    let l = n .before in
+    let s = l .before .before .before in
+    let w = written .put-entry in
+    omega (arith, writing-length (s .pre) (l .loop .inv) (n .loop-test .taken) (w .ensures .0) (w .ensures .1), s .pre .few, l .loop .inv .place)
 
 returns : tie.Need-returns Inv-loop μ-loop
 returns c =

@@ -2,7 +2,7 @@
 use Prim.Native.Nat.{_+_, _-_}
 use native.Mathlib.Omega.{arith}
 use lib.ListN.{length}
-use Rattle.payloads.proofs.Pieces.{code-small, Packing, packing-start, packing-next, packed-bytes, packed-count}
+use Rattle.payloads.proofs.Pieces.{code-small, code-low, Packing, packing-start, packing-next, packed-bytes, packed-count}
 use borrow.Author.Needs.{needs}
 use Rattle.payloads.proofs.pack.Statement.{statement}
 use Rattle.payloads.proofs.pack.Tie as tie
@@ -19,7 +19,7 @@ loop-holds c = packing-start _ _
 join-requires : tie.Need-join-requires Inv-loop μ-loop
 join-requires c κs =
     let s = c .before .before .before .before .before .before in
-    (code-small _ _ (s .pre .0), omega (arith, c .code-at .ensures, code-small (s .args .codes .now) (c .before .before .before .loop .i + 1) (s .pre .0)))
+    (code-small _ _ (s .pre .0), code-low _ _ _ (s .pre .0) (c .code-at .ensures))
 
 loop-again : tie.Need-loop-again Inv-loop μ-loop
 loop-again c =

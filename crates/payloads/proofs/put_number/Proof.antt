@@ -1,14 +1,15 @@
 -- What is left of the number fills what is left of its bytes. Assumes nothing.
+use Prim.Native.Nat.{_-_}
 use Rattle.payloads.proofs.Numbers.{Filling, filling-start, filling-next, filling-end}
 use borrow.Author.Needs.{needs}
 use Rattle.payloads.proofs.put_number.Statement.{statement}
 use Rattle.payloads.proofs.put_number.Tie as tie
 
 abbrev Inv-loop : tie.InvT-loop
-Inv-loop payload₀ at width x left₀ rest₀ payload left rest = Filling payload₀ payload at width x left rest
+Inv-loop payload₀ at width x done₀ rest₀ payload done rest = Filling payload₀ payload at width x done rest
 
 abbrev μ-loop : tie.MeasureT-loop
-μ-loop payload₀ at width x left₀ rest₀ payload left rest = left
+μ-loop payload₀ at width x done₀ rest₀ payload done rest = width - done
 
 loop-holds : tie.Need-loop-holds Inv-loop μ-loop
 loop-holds c = filling-start _ _ _ _
@@ -28,6 +29,7 @@ put-number-spec =
     loop-holds
     (λ c. search needs)
     (λ c κs. search needs)
+    (λ c. search needs)
     (λ c. search needs)
     (λ c. search needs)
     (λ c. search needs)

@@ -16,16 +16,6 @@ returns-2 c =
     let a = r .before .before .before .before .args in
     (kind-wrong (a .kind) (a .size) _ _ (r .read-line .ensures .0) (c .before .before .if1 .left) (c .if2 .taken), r .read-line .ensures .1)
 
-returns-3 : tie.Need-returns-3
-returns-3 c =
-    let read = c .before .before .before .before in
-    let r = read .before .before .before .before in
-    let a = r .before .before .before .before .args in (
-      size-wrong (a .kind) (a .size) _ _ (r .read-line .ensures .0) (read .if1 .left) (c .before .before .if2 .left)
-          (c .if3 .taken),
-      r .read-line .ensures .1,
-    )
-
 returns-4 : tie.Need-returns-4
 returns-4 c =
     let read = c .before .before .before .before in
@@ -33,6 +23,16 @@ returns-4 c =
     let a = r .before .before .before .before .args in (
       all-right (a .kind) (a .size) _ _ (r .read-line .ensures .0) (read .if1 .left) (c .before .before .if2 .left)
           (c .if3 .left),
+      r .read-line .ensures .1,
+    )
+
+returns-3 : tie.Need-returns-3
+returns-3 c =
+    let read = c .before .before .before .before in
+    let r = read .before .before .before .before in
+    let a = r .before .before .before .before .args in (
+      size-wrong (a .kind) (a .size) _ _ (r .read-line .ensures .0) (read .if1 .left) (c .before .before .if2 .left)
+          (c .if3 .taken),
       r .read-line .ensures .1,
     )
 

@@ -32,16 +32,6 @@ returns-3 c =
     let small : getD xs (l .loop .i) 0 < 256 = omega (arith, h .before .shared-slice-known2 .given (l .loop .i)) in
     sym (high-zero xs (l .loop .i) _ _ (t .loop-test .taken) small (h .split .ensures .0) (h .split .ensures .1) (l .loop .inv) (c .if3 .taken))
 
-returns-4 : tie.Need-returns-4 Inv-loop μ-loop
-returns-4 c =
-    let h = c .before .before .before .before in
-    let t = h .before .before in
-    let l = t .before in
-    let xs = l .before .before .before .before .args .payload .now in
-    let small : getD xs (l .loop .i) 0 < 256 = omega (arith, h .before .shared-slice-known2 .given (l .loop .i)) in
-    sym (low-zero xs (l .loop .i) _ _ (t .loop-test .taken) small (h .split .ensures .0) (h .split .ensures .1) (l .loop .inv)
-    (c .before .before .if3 .left) (c .if4 .taken))
-
 loop-again : tie.Need-loop-again Inv-loop μ-loop
 loop-again c =
     let h = c .before .before .before .before in
@@ -51,6 +41,16 @@ loop-again c =
     let small : getD xs (l .loop .i) 0 < 256 = omega (arith, h .before .shared-slice-known2 .given (l .loop .i)) in
     halving-next xs (l .loop .i) _ _ (t .loop-test .taken) small (h .split .ensures .0) (h .split .ensures .1) (l .loop .inv)
     (c .before .before .if3 .left) (c .if4 .left)
+
+returns-4 : tie.Need-returns-4 Inv-loop μ-loop
+returns-4 c =
+    let h = c .before .before .before .before in
+    let t = h .before .before in
+    let l = t .before in
+    let xs = l .before .before .before .before .args .payload .now in
+    let small : getD xs (l .loop .i) 0 < 256 = omega (arith, h .before .shared-slice-known2 .given (l .loop .i)) in
+    sym (low-zero xs (l .loop .i) _ _ (t .loop-test .taken) small (h .split .ensures .0) (h .split .ensures .1) (l .loop .inv)
+    (c .before .before .if3 .left) (c .if4 .taken))
 
 returns-5 : tie.Need-returns-5 Inv-loop μ-loop
 returns-5 c = sym (halving-end _ _ (c .loop-test .left) (c .before .loop .inv))
