@@ -21,7 +21,8 @@ pub blank : Blank (replicate 16384 0)
 blank = record { long = length-replicate {A = ℕ} 16384 0; empty = zeros-at 16384 }
 
 -- walks that fit a job
-pub walks-fit : {c : Settings} {coded t u firsts nexts : List ℕ} {rows : ℕ} → Fits c coded t → Matched c coded u firsts nexts rows → Walked (take rows firsts) nexts c
+pub walks-fit : {c : Settings} {coded t u firsts nexts : List ℕ} {rows : ℕ} → Fits c coded t → Matched c coded u firsts nexts rows
+    → Walked (take rows firsts) nexts c
 walks-fit ok m = record { walks = m .safe; wide = m .wide; some-base = ok .some-base; few-bases = ok .few-bases }
 
 -- ---- the jobs

@@ -1,6 +1,6 @@
 -- THE THREE DEMANDS on the entry points, of what their contracts state: of every setting, sequence and room. What is listed and held is that of
 -- rules/proofs/Theorems.antt. Assumes nothing.
-use mathlib.Core.Path.{_≡_, sym, ap, _∙_}
+use mathlib.Core.Path.{_≡_, refl, sym, ap, _∙_}
 use mathlib.Core.Logic.{_↔_}
 use mathlib.Core.List.{List, [], _++_, map, append-assoc, List·Memᴰ}
 use Prim.Native.Nat.{ℕ, _+_, _-_, _*_, _≤_, _<_, max, min}
@@ -8,12 +8,14 @@ use native.Mathlib.Omega.{arith}
 use lib.ListN.{length, take, replicate}
 use lib.Seq.{take-at}
 use Rattle.rules.specs.declared.Settings.{Settings}
-use Rattle.rules.specs.Entered.{forward, both}
+use Rattle.rules.specs.Entered.{settings, forward, both}
 use Rattle.rules.specs.declared.Cell.{Cell}
 use Rattle.rules.specs.declared.Record.{Record}
 use Rattle.rules.specs.Lists.{laid, thenZeros, zeros}
 use Rattle.rules.specs.Letters.{reverseComplement}
 use Rattle.rules.specs.Places.{places}
+use Rattle.rules.specs.Matches.{isMatch, matches}
+use Rattle.rules.specs.Records.{records}
 use Rattle.rules.specs.Listing.{listing, ends, Listed, Ordered}
 use Rattle.rules.specs.Rooms.{workHolds, listHolds, recordNumbers, held, Held, matchTotal, workNeed, linkTotal}
 use Rattle.rules.specs.Strands.{onStrand, strandEntries, entries, matchSum, largerNeed, linkSum}
@@ -235,3 +237,9 @@ one-outcome o x y e f = e ∙ sym f
 
 pub one-need : (c : Settings) (s t : List ℕ) (x y : ℕ) → x ≡ replied c s t → y ≡ replied c s t → x ≡ y
 one-need c s t x y e f = e ∙ sym f
+
+-- "m is checked and not used": the stopped sweep is the same with any other least span that the checks let pass
+pub m-not-used : (k b a m n strand : ℕ) (s t work : List ℕ) (r : ℕ)
+    → stoppedSweep (settings k b a m strand) s t work r ≡ stoppedSweep (settings k b a n strand) s t work r
+unfolding stoppedSweep held records matchTotal workNeed linkTotal matches isMatch
+m-not-used k b a m n strand s t work r = refl

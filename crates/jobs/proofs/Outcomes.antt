@@ -108,7 +108,8 @@ module _ (c : Settings) (forward reverse : List Cell) (rows reverse-rows : ℕ) 
   unfolding bothCounts
   needed = ap (λ (k : Counts). k .widest) n ∙ ap (λ (q : ℕ). largerOf q forward rows reverse reverse-rows) eb
 
-  pub compare-7 : (letters : ℕ) (work list : List ℕ) {work′ list′ : List ℕ} {r : Answer} → workHolds work < counts .widest → r ≡ refusal 7 0 (counts .widest) → work′ ≡ zeros work → list′ ≡ zeros list
+  pub compare-7 : (letters : ℕ) (work list : List ℕ) {work′ list′ : List ℕ} {r : Answer} → workHolds work < counts .widest
+      → r ≡ refusal 7 0 (counts .widest) → work′ ≡ zeros work → list′ ≡ zeros list
       → left r work′ list′ ≡ comparedOf c letters forward rows reverse reverse-rows work list
   unfolding zeroed comparedOf
   compare-7 letters work list h er ew el =
@@ -116,7 +117,8 @@ module _ (c : Settings) (forward reverse : List Cell) (rows reverse-rows : ℕ) 
       left-path (er ∙ ap (refusal 7 0) e) ew el ∙ sym (compares-7 _ _ _ _ work list (omega arith))
 
   -- with room enough, the rooms as the sweeps left them are those in which the job ends
-  pub compare-on : (letters : ℕ) (work work₁ list : List ℕ) {list₁ work′ list′ : List ℕ} {r : Answer} {listed : ℕ} → counts .widest ≤ workHolds work → length work₁ ≡ length work → length list₁ ≡ length list
+  pub compare-on : (letters : ℕ) (work work₁ list : List ℕ) {list₁ work′ list′ : List ℕ} {r : Answer} {listed : ℕ}
+      → counts .widest ≤ workHolds work → length work₁ ≡ length work → length list₁ ≡ length list
       → Entered (entriesOf c letters forward reverse) list₁ listed
       → left r work′ list′
       ≡ finishing (entriesIn listed list₁) (counts .matches) (counts .widest) (pairs b forward + pairs b reverse) work₁ list₁

@@ -1,25 +1,13 @@
--- One result only is allowed: every number of both lists is fixed, by a definition or as it was. Assumes nothing.
+-- First columns are fixed: every number is, by a definition or as it was. Assumes nothing.
 use mathlib.Core.Path.{_≡_, sym, _∙_}
 use mathlib.Core.List.{List}
-use mathlib.Core.Logic.{⊎-elim}
-use Prim.Native.Nat.{ℕ, _<_, _≤_}
+use Prim.Native.Nat.{ℕ}
 use lib.ListN.{length}
-use lib.Seq.{ext-getD}
-use Rattle.order.proofs.Cases.{le-or-lt}
-use Rattle.nexts.specs.Nexts.{NextColumns}
+use Rattle.order.proofs.Cases.{one-list}
 use Rattle.matches.specs.Columns.{FirstColumns}
 
+-- any two results of `matches::find_matches` are equal: the first columns
 pub firsts-one : {first second : List ℕ} {a : ℕ} {firsts₀ x y : List ℕ} → FirstColumns first second a firsts₀ x
     → FirstColumns first second a firsts₀ y → x ≡ y
-firsts-one {first} {x = x} {y = y} f g = ext-getD 0 x y (f .long ∙ sym (g .long)) (λ p _.
-    ⊎-elim
-    (λ (l : length first ≤ p). f .others p l ∙ sym (g .others p l))
-    (λ (l : p < length first). f .rows p l ∙ sym (g .rows p l))
-    (le-or-lt (length first) p))
-
-pub nexts-one : {second nexts₀ x y : List ℕ} → NextColumns second nexts₀ x → NextColumns second nexts₀ y → x ≡ y
-nexts-one {second} {x = x} {y = y} f g = ext-getD 0 x y (f .long ∙ sym (g .long)) (λ p _.
-    ⊎-elim
-    (λ (l : length second ≤ p). f .others p l ∙ sym (g .others p l))
-    (λ (l : p < length second). f .columns p l ∙ sym (g .columns p l))
-    (le-or-lt (length second) p))
+firsts-one {first} f g =
+    one-list (length first) (f .long) (g .long) (λ p l. f .rows p l ∙ sym (g .rows p l)) (λ p l. f .others p l ∙ sym (g .others p l))

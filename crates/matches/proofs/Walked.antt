@@ -120,7 +120,8 @@ module _ {firsts nexts : List ℕ} (safe : WalkSafe firsts nexts) where
   }
 
   -- one row more
-  pub walked-next : (p : ℕ) → p < length firsts → length (walkedTo firsts nexts (suc p)) ≡ length (walkedTo firsts nexts p) + length (rowFrom nexts (getD firsts p 0))
+  pub walked-next : (p : ℕ) → p < length firsts
+      → length (walkedTo firsts nexts (suc p)) ≡ length (walkedTo firsts nexts p) + length (rowFrom nexts (getD firsts p 0))
   unfolding walkedTo matchesTo rowFrom
   walked-next p l =
       let hit = walksTo firsts nexts in

@@ -1,2 +1,3 @@
 pub mod Links
 pub mod Examples
+pub mod Unique

@@ -1,6 +1,6 @@
 -- Two numbers compared, two truth values told apart, a list read after a store or as it is laid out: what every law here and above is made
 -- of. Assumes nothing.
-use mathlib.Core.Path.{_≡_, refl, sym, ap}
+use mathlib.Core.Path.{_≡_, refl, sym, ap, _∙_}
 use mathlib.Core.Bool.{Bool, true, false, cond, _&&_}
 use mathlib.Core.List.{List}
 use mathlib.Core.Logic.{_⊎_, inl, inr, ⊎-elim}
@@ -8,7 +8,7 @@ use Prim.Native.Nat.{ℕ, zero, suc, _<_, _≤_}
 use native.Mathlib.Omega.{arith}
 use lib.Dec.{eqb, leb}
 use lib.ListN.{getD, length, set, replicate}
-use lib.Seq.{getD-set-same, getD-set-other}
+use lib.Seq.{getD-set-same, getD-set-other, ext-getD}
 use borrow.Author.Tests.{leb-true, leb-false, eqb-true, eqb-false}
 
 le-or-lt-by : (a b : ℕ) (t : Bool) → leb a b ≡ t → (a ≤ b) ⊎ (b < a)
@@ -54,3 +54,9 @@ pub zero-at : (n p : ℕ) → getD {A = ℕ} (replicate n 0) p 0 ≡ 0
 zero-at zero p = refl
 zero-at (suc n) zero = refl
 zero-at (suc n) (suc p) = zero-at n p
+
+-- two lists that agree on their first n numbers and behind them are one list
+pub one-list : {a b : List ℕ} {long : ℕ} (n : ℕ) → length a ≡ long → length b ≡ long → ((p : ℕ) → p < n → getD a p 0 ≡ getD b p 0)
+    → ((p : ℕ) → n ≤ p → getD a p 0 ≡ getD b p 0) → a ≡ b
+one-list {a} {b} n la lb front rest =
+    ext-getD 0 a b (la ∙ sym lb) (λ p _. ⊎-elim (λ (h : n ≤ p). rest p h) (λ (h : p < n). front p h) (le-or-lt n p))

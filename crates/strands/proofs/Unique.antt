@@ -6,6 +6,7 @@ use lib.ListN.{length, take}
 use Rattle.rules.specs.declared.Settings.{Settings}
 use Rattle.strands.specs.Strands.{ListsBoth}
 
+-- any two results of `strands::list_strands` are equal in what they state
 pub lists-one : {firsts nexts reverse-firsts reverse-nexts : List ℕ} {letters : ℕ} {c : Settings} {list list′ : List ℕ} {n m : ℕ}
     → ListsBoth firsts nexts reverse-firsts reverse-nexts c letters list n → ListsBoth firsts nexts reverse-firsts reverse-nexts c letters list′ m
     → (n ≡ m) × (6 * n ≤ length list → 6 * m ≤ length list′ → take (6 * n) list ≡ take (6 * m) list′)

@@ -98,7 +98,8 @@ fn list_turned(
     count
 }
 
-// Lists the forward strand, and the reverse strand behind it, over slots for the larger need; returns how many entries there are. The second sequence has so many letters.
+// Lists the forward strand, and the reverse strand behind it, over slots for the larger need; returns how many entries there are. The second sequence
+// has so many letters.
 pub fn list_strands(
     firsts: &[u32],
     nexts: &[u32],

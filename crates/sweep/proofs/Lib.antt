@@ -1,3 +1,4 @@
 pub mod Parts
 pub mod Sweeping
 pub mod Ending
+pub mod Unique

@@ -61,20 +61,22 @@ fn sweep(
     while i < firsts.len() {
         let start = numbers::wide(firsts[i]);
         let leave = leaves(firsts, b, i);
-        i += 1;
+        let row = i + 1;
         if leave {
-            let released = listing::release(room, latest, ring, tail, head, c, i, list, listed);
+            let released = listing::release(room, latest, ring, tail, head, c, row, list, listed);
             tail = released.tail;
             listed = released.listed;
         }
-        let h = rows::store_row(nexts, start, room, latest, ring, tail, head, from, b, i);
+        let h = rows::store_row(nexts, start, room, latest, ring, tail, head, from, b, row);
         from = later_from(h, head, from);
         head = h;
+        i = row;
     }
     Swept { tail, head, listed }
 }
 
-// Sweeps all rows over a ring of at least W slots and releases them all; returns how many entries there are, also where the list room is too short for them.
+// Sweeps all rows over a ring of at least W slots and releases them all; returns how many entries there are, also where the list room is too short for
+// them.
 pub fn list_all(
     firsts: &[u32],
     nexts: &[u32],

@@ -1,3 +1,4 @@
 pub mod Counting
 pub mod Striking
 pub mod Examples
+pub mod Unique

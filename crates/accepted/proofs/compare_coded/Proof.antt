@@ -19,6 +19,12 @@ start b = entry (b .before)
 both-requires : tie.Need-both-requires
 both-requires c κs = (entry c .pre, (blank .long, (blank .long, (blank .long, blank .long))))
 
+returns : tie.Need-returns
+returns c =
+    let j = c .before .before .before .before in
+    let b = matched (j .before .before .before .before .before) in
+    compares (both-matched (start b .pre) blank blank blank blank (b .both .ensures)) _ _ refl (j .compare-matches .ensures)
+
 slice-aggregate-compare-matches : tie.Need-slice-aggregate-compare-matches
 slice-aggregate-compare-matches c =
     let b = c .before .before .before .before .before in
@@ -40,12 +46,6 @@ compare-matches-requires c κs =
     let ok = start b .pre in
     let m = both-matched ok blank blank blank blank (b .both .ensures) in
     (walks-fit ok (m .forward), (walks-fit ok (m .reverse), ok .short-second))
-
-returns : tie.Need-returns
-returns c =
-    let j = c .before .before .before .before in
-    let b = matched (j .before .before .before .before .before) in
-    compares (both-matched (start b .pre) blank blank blank blank (b .both .ensures)) _ _ refl (j .compare-matches .ensures)
 
 pub compare-coded-spec : {M : Type 1} → statement M
 compare-coded-spec =

@@ -32,6 +32,13 @@ returns c =
     let a = start h .args in
     refuses (a .settings) (a .first .now) (a .second .now) (h .check .ensures) (c .if1 .taken) (a .work .now) (a .list .now)
 
+returns-2 : tie.Need-returns-2
+returns-2 c =
+    let j = c .before .before .before .before in
+    let p = j .before .before .before .before in
+    let a = entry p .args in
+    compares (a .settings) (a .first .now) (a .second .now) (ready p) (a .work .now) (a .list .now) (j .compare-coded .ensures)
+
 code-all-requires : tie.Need-code-all-requires
 code-all-requires c κs =
     let e = c .before in
@@ -48,13 +55,6 @@ slice-aggregate-compare-coded c = let p = c .before in let a = entry p .args in 
 
 compare-coded-requires : tie.Need-compare-coded-requires
 compare-coded-requires c κs = let p = c .before .before .before in let a = entry p .args in fits (a .settings) (a .first .now) (a .second .now) (ready p)
-
-returns-2 : tie.Need-returns-2
-returns-2 c =
-    let j = c .before .before .before .before in
-    let p = j .before .before .before .before in
-    let a = entry p .args in
-    compares (a .settings) (a .first .now) (a .second .now) (ready p) (a .work .now) (a .list .now) (j .compare-coded .ensures)
 
 pub compare-spec : {M : Type 1} → statement M
 compare-spec =

@@ -18,7 +18,13 @@ checking p = p .before .before .before
 abbrev entry : tie.After-code-all → tie.Start
 entry p = start (checking p)
 
--- there the job is ready
+returns : tie.Need-returns
+returns c =
+    let h = c .before in
+    let a = start h .args in
+    refuses-need (a .settings) (a .first .now) (a .second .now) (h .check .ensures) (c .if1 .taken)
+
+-- where the first sequence is coded, the job is ready
 ready : (p : tie.After-code-all)
     → let a = entry p .args in Coded (a .settings) (a .first .now) (a .second .now) (p .code-all .last .1 .1 .0) (p .code-all .result)
 ready p =
@@ -34,12 +40,6 @@ add-result c =
     let h = c .before in
     let a = start h .args in
     omega (arith, ap (λ (x : Answer). x .number) (h .check .ensures), number-small (a .settings) (a .first .now) (a .second .now))
-
-returns : tie.Need-returns
-returns c =
-    let h = c .before in
-    let a = start h .args in
-    refuses-need (a .settings) (a .first .now) (a .second .now) (h .check .ensures) (c .if1 .taken)
 
 code-all-requires : tie.Need-code-all-requires
 code-all-requires c κs =

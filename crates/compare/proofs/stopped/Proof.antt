@@ -15,7 +15,13 @@ checking p = p .before .before .before .before
 abbrev entry : tie.After-code-all → tie.Start
 entry p = start (checking p)
 
--- there the job is ready
+returns : tie.Need-returns
+returns c =
+    let h = c .before .before in
+    let a = start h .args in
+    refuses-stop (a .settings) (a .first .now) (a .second .now) (h .check .ensures) (c .if1 .taken) (a .work .now) (a .row)
+
+-- where the first sequence is coded, the job is ready
 ready : (p : tie.After-code-all)
     → let a = entry p .args in Coded (a .settings) (a .first .now) (a .second .now) (p .code-all .last .1 .1 .0) (p .code-all .result)
 ready p =
@@ -25,12 +31,6 @@ ready p =
       rest = _;
       filled = p .code-all .ensures .1;
     }
-
-returns : tie.Need-returns
-returns c =
-    let h = c .before .before in
-    let a = start h .args in
-    refuses-stop (a .settings) (a .first .now) (a .second .now) (h .check .ensures) (c .if1 .taken) (a .work .now) (a .row)
 
 code-all-requires : tie.Need-code-all-requires
 code-all-requires c κs =

@@ -32,17 +32,6 @@ returns-2 c =
     length-wrong _ (s .args .bytes .now) _ _ _ _ (sym (e .before .is-line .ensures) ∙ not-false _ (e .if1 .left)) (s .pre) (d .decode .ensures .1)
     (d .decode .ensures .0 .0) (d .decode .ensures .0 .1) (w .wide .ensures .0) _ (t .if2 .taken) (c .refused2 .ensures)
 
-returns-3 : tie.Need-returns-3
-returns-3 c =
-    let t = c .before in
-    let u = t .before .before in
-    let w = u .before .before in
-    let d = w .before .before .before .before in
-    let e = d .before .before in
-    let s = e .before .before .before .before in
-    check-wrong _ (s .args .bytes .now) _ _ _ _ (sym (e .before .is-line .ensures) ∙ not-false _ (e .if1 .left)) (s .pre) (d .decode .ensures .1)
-    (d .decode .ensures .0 .0) (d .decode .ensures .0 .1) (w .wide .ensures .0) (u .if2 .left) _ (t .if3 .taken) (c .refused3 .ensures)
-
 returns-4 : tie.Need-returns-4
 returns-4 c =
     let t = c .before in
@@ -53,6 +42,17 @@ returns-4 c =
     let s = e .before .before .before .before in
     is-frame _ (s .args .bytes .now) _ _ _ _ (sym (e .before .is-line .ensures) ∙ not-false _ (e .if1 .left)) (s .pre) (d .decode .ensures .1)
     (d .decode .ensures .0 .0) (d .decode .ensures .0 .1) (w .wide .ensures .0) (u .if2 .left) (t .if3 .left)
+
+returns-3 : tie.Need-returns-3
+returns-3 c =
+    let t = c .before in
+    let u = t .before .before in
+    let w = u .before .before in
+    let d = w .before .before .before .before in
+    let e = d .before .before in
+    let s = e .before .before .before .before in
+    check-wrong _ (s .args .bytes .now) _ _ _ _ (sym (e .before .is-line .ensures) ∙ not-false _ (e .if1 .left)) (s .pre) (d .decode .ensures .1)
+    (d .decode .ensures .0 .0) (d .decode .ensures .0 .1) (w .wide .ensures .0) (u .if2 .left) _ (t .if3 .taken) (c .refused3 .ensures)
 
 pub read-line-spec : {M : Type 1} → statement M
 read-line-spec =

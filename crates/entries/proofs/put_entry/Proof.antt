@@ -27,7 +27,7 @@ same-length c = simp length-set
 
 returns : tie.Need-returns
 unfolding putEntry
-returns c = rw (← c .before .wrapping-add-u32 .ensures, ← c .wrapping-add-u322 .ensures) (simp towards-suc)
+returns c = simp (towards-suc, c .before .wrapping-add-u32 .ensures, c .wrapping-add-u322 .ensures)
 
 pub put-entry-spec : {M : Type 1} → statement M
 put-entry-spec =

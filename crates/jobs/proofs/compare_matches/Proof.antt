@@ -23,7 +23,8 @@ returns c =
     let q = x .before .before in
     let p = q .before in
     let n = counted p in
-    compare-7 _ _ _ _ _ (n .before .wide .ensures .0) (n .count-strands .ensures) _ _ _ (omega (arith, p .record-count .ensures, q .if1 .taken)) (c .refuse .ensures) (x .zero-all .ensures) (y .zero-all2 .ensures)
+    compare-7 _ _ _ _ _ (n .before .wide .ensures .0) (n .count-strands .ensures) _ _ _
+    (omega (arith, p .record-count .ensures, q .if1 .taken)) (c .refuse .ensures) (x .zero-all .ensures) (y .zero-all2 .ensures)
 
 list-strands-requires : tie.Need-list-strands-requires
 unfolding workHolds
@@ -32,7 +33,8 @@ list-strands-requires c κs =
     let p = q .before in
     let n = counted p in
     let s = start n in
-    let (few, enough, reverse-enough) = fits-both (s .pre .0 .walks) (s .pre .1 .0 .walks) (s .args .c) (n .before .wide .ensures .0) (n .count-strands .ensures) in
+    let (few, enough, reverse-enough) =
+    fits-both (s .pre .0 .walks) (s .pre .1 .0 .walks) (s .args .c) (n .before .wide .ensures .0) (n .count-strands .ensures) in
     (s .pre .0, (s .pre .1 .0, (omega (arith, p .record-count .ensures, q .if1 .left), (few, (s .pre .1 .1, (enough, reverse-enough))))))
 
 finish-requires : tie.Need-finish-requires
@@ -50,7 +52,8 @@ returns-2 c =
     let p = q .before in
     let kept = m .list-strands .kept .1 .1 .1 .1 .1 .1 .1 in
     let n = counted p in
-    compare-on _ _ _ _ _ (n .before .wide .ensures .0) (n .count-strands .ensures) _ _ (m .list-strands .last .1 .1 .1 .1 .1 .1 .1 .0) _ (omega (arith, p .record-count .ensures, q .if1 .left)) (kept .0)
+    compare-on _ _ _ _ _ (n .before .wide .ensures .0) (n .count-strands .ensures) _ _
+    (m .list-strands .last .1 .1 .1 .1 .1 .1 .1 .0) _ (omega (arith, p .record-count .ensures, q .if1 .left)) (kept .0)
     (kept .1 .0)
     (m .list-strands .ensures .entered) (f .finish .ensures)
 

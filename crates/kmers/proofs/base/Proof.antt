@@ -5,6 +5,14 @@ use Rattle.kmers.proofs.Bases.{twoOf, baseWith, two-low, with-low, base
 use Rattle.kmers.proofs.base.Statement.{statement}
 use Rattle.kmers.proofs.base.Tie as tie
 
+returns-2 : tie.Need-returns-2
+unfolding baseWith
+returns-2 c = base-none (c .before .args .letter) (search needs) (c .if1 .left)
+
+returns : tie.Need-returns
+unfolding baseWith
+returns c = base-is (c .before .args .letter) (search needs) (c .if1 .taken)
+
 mul-expected : tie.Need-mul-expected
 unfolding twoOf
 mul-expected c = record { fits = omega (arith, two-low (c .args .letter) (search needs)) }
@@ -24,14 +32,6 @@ cast-expected-2 c = record { fits = omega (arith, with-low (c .args .letter) (se
 cast-result : tie.Need-cast-result
 unfolding twoOf
 cast-result c = record { fits = omega (arith, two-low (c .before .args .letter) (search needs)) }
-
-returns : tie.Need-returns
-unfolding baseWith
-returns c = base-is (c .before .args .letter) (search needs) (c .if1 .taken)
-
-returns-2 : tie.Need-returns-2
-unfolding baseWith
-returns-2 c = base-none (c .before .args .letter) (search needs) (c .if1 .left)
 
 pub base-spec : {M : Type 1} → statement M
 base-spec =

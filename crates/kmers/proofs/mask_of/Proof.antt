@@ -7,11 +7,11 @@ use Rattle.kmers.proofs.Bits.{one-shifted}
 use Rattle.kmers.proofs.mask_of.Statement.{statement}
 use Rattle.kmers.proofs.mask_of.Tie as tie
 
-sub-result : tie.Need-sub-result
-sub-result c = omega (arith, one-shifted (c .args .k) (c .pre), pow-pos (2 * c .args .k))
-
 returns : tie.Need-returns
 returns c = rw (one-shifted (c .args .k) (c .pre))
+
+sub-result : tie.Need-sub-result
+sub-result c = omega (arith, one-shifted (c .args .k) (c .pre), pow-pos (2 * c .args .k))
 
 pub mask-of-spec : {M : Type 1} → statement M
 mask-of-spec = tie.close (tie.spec (λ c. search needs) (λ c. search needs) sub-result returns)

@@ -14,7 +14,7 @@ returns c =
 returns-2 : tie.Need-returns-2
 returns-2 c =
     let a = c .before .before .before .before .args in
-    refuses _ (a .out .now) _ (slice-short (a .kind) (a .payload .now) (a .out .now) (c .before .if1 .left) (c .if2 .taken))
+    refuses _ (a .out .now) _ (slice-short (a .kind) (a .payload .now) (a .out .now) (c .before .if1 .left) (omega (arith, c .if2 .taken)))
 
 same-length : tie.Need-same-length
 same-length c =

@@ -28,17 +28,6 @@ record-at-requires c κs =
     let s = w .before .before .before .before in
     omega (arith, c .slot .ensures .1, s .pre .room-for)
 
-add-if1 : tie.Need-add-if1 Inv-loop μ-loop
-add-if1 c = omega (arith, c .wide2 .ensures .1, c .before .before .before .before .before .wide .ensures .1)
-
-same-length : tie.Need-same-length Inv-loop μ-loop
-same-length c =
-    let r = c .before .before in
-    let q = r .before in
-    let l = q .before .before in
-    let v = l .loop in
-    v .inv .size
-
 returns : tie.Need-returns Inv-loop μ-loop
 returns c =
     let r = c .before .before in
@@ -49,6 +38,17 @@ returns c =
     let v = l .loop in
     released-here (s .pre) (v .inv) (q .before .loop-test .taken) (q .slot .ensures .0) (r .record-at .ensures)
     (omega (arith, c .if1 .taken, c .before .wide2 .ensures .0, w .wide .ensures .0))
+
+add-if1 : tie.Need-add-if1 Inv-loop μ-loop
+add-if1 c = omega (arith, c .wide2 .ensures .1, c .before .before .before .before .before .wide .ensures .1)
+
+same-length : tie.Need-same-length Inv-loop μ-loop
+same-length c =
+    let r = c .before .before in
+    let q = r .before in
+    let l = q .before .before in
+    let v = l .loop in
+    v .inv .size
 
 list-record-requires : tie.Need-list-record-requires Inv-loop μ-loop
 list-record-requires c κs =

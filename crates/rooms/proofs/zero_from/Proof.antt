@@ -41,7 +41,7 @@ loop-again c =
     let a = c .before .before .args in (
       omega arith,
       simp length-set (omega arith),
-      zero-more (take (a .from) (a .room .now)) (c .before .loop .room) (a .from) (c .before .loop .i) (v .0) (c .loop-test .taken) (v .2),
+      zero-more (take (a .from) (a .room .now)) (c .before .loop .room) (a .from) (c .before .loop .i) (v .0) (omega arith) (v .2),
       simp length-set (v .3),
     )
 

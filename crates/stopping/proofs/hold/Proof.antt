@@ -13,7 +13,9 @@ abbrev start : tie.After-ring-from → tie.Start
 start r = r .before .before .before .before .before .before .before .before
 
 -- the last row before the run, by the gap bound of the settings
-last : (m : tie.After-matches-before) → let s = m .before .before .before .before .before .before .before in m .before .before-run .result ≡ s .args .row - s .args .c .b - 1
+last : (m : tie.After-matches-before)
+    → let s = m .before .before .before .before .before .before .before in
+    m .before .before-run .result ≡ s .args .row - s .args .c .b - 1
 last m =
     let p = m .before in
     let s = p .before .before .before .before .before .before in

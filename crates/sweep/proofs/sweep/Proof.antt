@@ -35,8 +35,8 @@ shared-slice-read-wide c = omega arith
 leaves-requires : tie.Need-leaves-requires Inv-loop μ-loop
 leaves-requires c κs = c .before .before .loop-test .taken
 
-add-i : tie.Need-add-i Inv-loop μ-loop
-add-i c =
+add-row : tie.Need-add-row Inv-loop μ-loop
+add-row c =
     let n = testing c in
     omega (arith, n .loop-test .taken, start (n .before .before) .pre .0 .walks .few-rows)
 
@@ -118,7 +118,7 @@ sweep-spec =
     shared-slice-read-wide
     (λ c κs. search needs)
     leaves-requires
-    add-i
+    add-row
     release-requires
     store-row-requires
     (λ c κs. search needs)

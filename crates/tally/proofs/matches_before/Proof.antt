@@ -37,7 +37,8 @@ add-matches c =
     let l = c .before .before .before .before in
     let s = l .before .before .before in
     let safe = s .pre .0 in
-    omega (arith, l .loop .inv .1, walked-few safe (l .loop .p), c .row-size .ensures, row-few (s .args .nexts .now) (c .before .wide .result), safe .nexts-safe .few-columns, safe .few-rows)
+    let size = row-few (s .args .nexts .now) (c .before .wide .result) in
+    omega (arith, l .loop .inv .1, walked-few safe (l .loop .p), c .row-size .ensures, safe .nexts-safe .few-columns, safe .few-rows)
 
 add-p : tie.Need-add-p Inv-loop μ-loop
 add-p c = omega arith

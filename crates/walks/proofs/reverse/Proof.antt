@@ -21,15 +21,6 @@ turned-is : (r : tie.After-reverse-complement)
     → take (length (start r .args .second .now)) (r .reverse-complement .last .1 .0) ≡ reverseComplement (start r .args .second .now)
 turned-is r = turned-front (start r .args .second .now) _ _ (r .reverse-complement .ensures)
 
-slice-aggregate-forward : tie.Need-slice-aggregate-forward
-slice-aggregate-forward c = let r = c .before .before in sym (ap length (turned-is r) ∙ turned-length (start r .args .second .now))
-
-forward-requires : tie.Need-forward-requires
-forward-requires c κs =
-    let r = c .before .before .before .before in
-    let s = start r in
-    (subst⁻¹ (λ (l : List ℕ). Fits (s .args .c) (s .args .coded .now) l) (turned-is r) (turned-fits (s .pre .0)), s .pre .1)
-
 returns : tie.Need-returns
 unfolding onStrand
 returns c =
@@ -38,6 +29,15 @@ returns c =
     let a = start r .args in
     subst (λ (l : List ℕ). Columns (a .c) (a .coded .now) l (a .firsts .now) (a .nexts .now) (m .forward .last .1 .1 .1 .0) (m .forward .last .1 .1 .1 .1 .0))
     (turned-is r) (m .forward .ensures)
+
+slice-aggregate-forward : tie.Need-slice-aggregate-forward
+slice-aggregate-forward c = let r = c .before .before in sym (ap length (turned-is r) ∙ turned-length (start r .args .second .now))
+
+forward-requires : tie.Need-forward-requires
+forward-requires c κs =
+    let r = c .before .before .before .before in
+    let s = start r in
+    (subst⁻¹ (λ (l : List ℕ). Fits (s .args .c) (s .args .coded .now) l) (turned-is r) (turned-fits (s .pre .0)), s .pre .1)
 
 pub reverse-spec : {M : Type 1} → statement M
 reverse-spec =
