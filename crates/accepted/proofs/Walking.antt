@@ -9,16 +9,30 @@ use Rattle.rules.specs.Strands.{onStrand}
 use Rattle.rules.specs.Answers.{left}
 use Rattle.rules.proofs.ListLaws.{zeros-at}
 use Rattle.matches.specs.Walks.{walked}
-use Rattle.walks.specs.Matched.{codedMatches, Fits}
-use Rattle.walks.proofs.Matching.{Blank, Matched, BothMatched}
+use Rattle.walks.specs.Matched.{codedMatches, Fits, Columns, BothColumns}
+use Rattle.walks.proofs.Matching.{Blank, Matched, BothMatched, both-matched, strand-matched}
 use Rattle.tally.specs.declared.Counts.{Counts}
 use Rattle.strands.specs.Strands.{largerOf, bothCounts, Walked}
 use Rattle.jobs.specs.Jobs.{comparedOf}
 use Rattle.stopping.specs.Stopping.{stoppedOf}
 use Rattle.accepted.specs.Coded.{comparedCoded, stoppedCoded, neededCoded}
 
-pub blank : Blank (replicate 16384 0)
+-- an array as it is made
+abbrev none : List ℕ
+none = replicate 16384 0
+
+pub blank : Blank none
 blank = record { long = length-replicate {A = ℕ} 16384 0; empty = zeros-at 16384 }
+
+-- walks that were made in such arrays
+pub both-walks : {c : Settings} {coded t firsts nexts reverse-firsts reverse-nexts : List ℕ} {rows : ℕ} → Fits c coded t
+    → BothColumns c coded t none none none none firsts nexts reverse-firsts reverse-nexts rows
+    → BothMatched c coded t firsts nexts reverse-firsts reverse-nexts rows
+both-walks ok m = both-matched ok blank blank blank blank m
+
+pub strand-walks : {c : Settings} {coded t firsts nexts : List ℕ} → Fits c coded t → Columns c coded (onStrand (c .strand) t) none none firsts nexts
+    → Matched c coded (onStrand (c .strand) t) firsts nexts (length coded)
+strand-walks ok m = strand-matched ok blank blank m
 
 -- walks that fit a job
 pub walks-fit : {c : Settings} {coded t u firsts nexts : List ℕ} {rows : ℕ} → Fits c coded t → Matched c coded u firsts nexts rows

@@ -108,7 +108,7 @@ unfoldable pub numbersRead : ℕ → List ℕ → FrameRead
 unfolding thenZeros
 numbersRead number values = record { number = number; values = thenZeros values 5 }
 
--- "Kinds 10, 11 and 1F have a reader of one line", and CR 1's 12. Asked for any other, the line is of another kind: 23
+-- "Kinds 10, 11 and 1F have a reader of one line", and CR 1's 12. No other kind has one, so that asked for any other it gives 23
 unfoldable pub readFrame : ℕ → List ℕ → FrameRead
 unfolding numbersRead readEntry readReverse readDone readRefused entryValues doneValues refusedValues
 readFrame kind line =

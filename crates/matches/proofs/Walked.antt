@@ -96,7 +96,7 @@ module _ {nexts : List ℕ} (safe : NextsSafe nexts) where
           (λ q k. same q ∙ behind (length nexts) x j q l (λ h. omega arith) (sym (same (suc j)) ∙ e) k);
     }
 
--- a row has no column twice
+-- a row has no more columns than there are
 pub row-few : (nexts : List ℕ) (x : ℕ) → length (rowFrom nexts x) ≤ length nexts
 unfolding rowFrom walk
 row-few nexts x = go (length nexts) x

@@ -47,7 +47,7 @@ fn write_counted<const N: usize>(
 }
 
 /// "Kinds 10, 11 and 1F have a reader of one line", and so has 12. The reply is
-/// the reader's number. Another kind has no reader, and no line is of it: 23.
+/// the reader's number. Another kind has no reader: 23, whatever the line is.
 pub fn read_frame(kind: u32, line: &[u8], values: &mut [u64; 5]) -> u64 {
     let (number, read) = match u8::try_from(kind) {
         Ok(ENTRY) => filled_up(read_entry(line)),

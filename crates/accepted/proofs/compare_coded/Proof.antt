@@ -1,7 +1,6 @@
 -- `accepted::compare_coded` meets its contract: the job on the walks of both strands is the job on their matches. Assumes nothing.
 use mathlib.Core.Path.{refl}
-use Rattle.walks.proofs.Matching.{both-matched}
-use Rattle.accepted.proofs.Walking.{blank, walks-fit, compares}
+use Rattle.accepted.proofs.Walking.{blank, both-walks, walks-fit, compares}
 use borrow.Author.Needs.{needs}
 use Rattle.accepted.proofs.compare_coded.Statement.{statement}
 use Rattle.accepted.proofs.compare_coded.Tie as tie
@@ -23,28 +22,28 @@ returns : tie.Need-returns
 returns c =
     let j = c .before .before .before .before in
     let b = matched (j .before .before .before .before .before) in
-    compares (both-matched (start b .pre) blank blank blank blank (b .both .ensures)) _ _ refl (j .compare-matches .ensures)
+    compares (both-walks (start b .pre) (b .both .ensures)) _ _ refl (j .compare-matches .ensures)
 
 slice-aggregate-compare-matches : tie.Need-slice-aggregate-compare-matches
 slice-aggregate-compare-matches c =
     let b = c .before .before .before .before .before in
-    both-matched (start b .pre) blank blank blank blank (b .both .ensures) .forward .long
+    both-walks (start b .pre) (b .both .ensures) .forward .long
 
 array-share-prefix-reverse-firsts : tie.Need-array-share-prefix-reverse-firsts
 array-share-prefix-reverse-firsts c =
     let b = matched c in
-    both-matched (start b .pre) blank blank blank blank (b .both .ensures) .reverse .inside
+    both-walks (start b .pre) (b .both .ensures) .reverse .inside
 
 slice-aggregate-compare-matches-3 : tie.Need-slice-aggregate-compare-matches-3
 slice-aggregate-compare-matches-3 c =
     let b = matched (c .before) in
-    both-matched (start b .pre) blank blank blank blank (b .both .ensures) .reverse .long
+    both-walks (start b .pre) (b .both .ensures) .reverse .long
 
 compare-matches-requires : tie.Need-compare-matches-requires
 compare-matches-requires c κs =
     let b = matched (c .before .before .before .before) in
     let ok = start b .pre in
-    let m = both-matched ok blank blank blank blank (b .both .ensures) in
+    let m = both-walks ok (b .both .ensures) in
     (walks-fit ok (m .forward), (walks-fit ok (m .reverse), ok .short-second))
 
 pub compare-coded-spec : {M : Type 1} → statement M

@@ -1,6 +1,5 @@
 -- `accepted::need_coded` meets its contract: W is counted from the walks of both strands. Assumes nothing.
-use Rattle.walks.proofs.Matching.{both-matched}
-use Rattle.accepted.proofs.Walking.{blank, measures}
+use Rattle.accepted.proofs.Walking.{blank, both-walks, measures}
 use borrow.Author.Needs.{needs}
 use Rattle.accepted.proofs.need_coded.Statement.{statement}
 use Rattle.accepted.proofs.need_coded.Tie as tie
@@ -18,29 +17,29 @@ both-requires c κs = (c .before .before .before .before .before .before .pre, (
 slice-aggregate-count-strands : tie.Need-slice-aggregate-count-strands
 slice-aggregate-count-strands c =
     let b = c .before .before .before .before .before in
-    both-matched (start b .pre) blank blank blank blank (b .both .ensures) .forward .long
+    both-walks (start b .pre) (b .both .ensures) .forward .long
 
 array-share-prefix-reverse-firsts : tie.Need-array-share-prefix-reverse-firsts
 array-share-prefix-reverse-firsts c =
     let b = matched c in
-    both-matched (start b .pre) blank blank blank blank (b .both .ensures) .reverse .inside
+    both-walks (start b .pre) (b .both .ensures) .reverse .inside
 
 slice-aggregate-count-strands-3 : tie.Need-slice-aggregate-count-strands-3
 slice-aggregate-count-strands-3 c =
     let b = matched (c .before) in
-    both-matched (start b .pre) blank blank blank blank (b .both .ensures) .reverse .long
+    both-walks (start b .pre) (b .both .ensures) .reverse .long
 
 count-strands-requires : tie.Need-count-strands-requires
 count-strands-requires c κs =
     let b = matched (c .before .before .before) in
-    let m = both-matched (start b .pre) blank blank blank blank (b .both .ensures) in
+    let m = both-walks (start b .pre) (b .both .ensures) in
     (m .forward .safe, m .reverse .safe)
 
 returns : tie.Need-returns
 returns c =
     let w = c .before in
     let b = matched (w .before .before .before) in
-    measures (both-matched (start b .pre) blank blank blank blank (b .both .ensures)) (w .wide .ensures .0) (c .count-strands .ensures)
+    measures (both-walks (start b .pre) (b .both .ensures)) (w .wide .ensures .0) (c .count-strands .ensures)
 
 pub need-coded-spec : {M : Type 1} → statement M
 need-coded-spec =

@@ -1,6 +1,5 @@
 -- `accepted::stop_coded` meets its contract: the stopped sweep on the walks of a strand is the one on its matches. Assumes nothing.
-use Rattle.walks.proofs.Matching.{strand-matched}
-use Rattle.accepted.proofs.Walking.{blank, walks-fit, stops}
+use Rattle.accepted.proofs.Walking.{blank, strand-walks, walks-fit, stops}
 use borrow.Author.Needs.{needs}
 use Rattle.accepted.proofs.stop_coded.Statement.{statement}
 use Rattle.accepted.proofs.stop_coded.Tie as tie
@@ -15,20 +14,20 @@ strand-requires c κs = (c .before .before .before .before .before .pre, (blank 
 slice-aggregate-stop-matches : tie.Need-slice-aggregate-stop-matches
 slice-aggregate-stop-matches c =
     let m = c .before .before .before in
-    strand-matched (start m .pre) blank blank (m .strand .ensures) .long
+    strand-walks (start m .pre) (m .strand .ensures) .long
 
 stop-matches-requires : tie.Need-stop-matches-requires
 stop-matches-requires c κs =
     let m = c .before .before .before .before .before .before in
     let ok = start m .pre in
-    walks-fit ok (strand-matched ok blank blank (m .strand .ensures))
+    walks-fit ok (strand-walks ok (m .strand .ensures))
 
 returns : tie.Need-returns
 returns c =
     let j = c .before .before in
     let w = j .before in
     let m = w .before .before .before .before .before .before in
-    stops _ (strand-matched (start m .pre) blank blank (m .strand .ensures)) _ (w .wide .ensures .0) (j .stop-matches .ensures)
+    stops _ (strand-walks (start m .pre) (m .strand .ensures)) _ (w .wide .ensures .0) (j .stop-matches .ensures)
 
 pub stop-coded-spec : {M : Type 1} → statement M
 stop-coded-spec =
