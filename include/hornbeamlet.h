@@ -1,10 +1,11 @@
 /*
  * hornbeamlet.h: chains of common k-mers between two sequences.
  *
- * Link with target/native/libhornbeamlet.a (tools/staticlib writes it). The
+ * Link with native/libhornbeamlet.a or native/libhornbeamlet.so
+ * (tools/staticlib writes both, and native/hornbeamlet.pc for pkg-config). The
  * library needs memset and nothing else. It keeps no state, allocates nothing
  * and calls nobody back, so any number of threads may use it at once. A call
- * takes up to about 1.2 MB of stack.
+ * takes up to about 1 MB of stack: see THREADS.
  *
  * SETTINGS
  *
@@ -146,20 +147,90 @@
  * another or the sequences, nor a frame's line its values. The two sequences
  * may be the same.
  *
+ * THREADS
+ *
+ * A call keeps its tables on the stack of the thread that makes it. Measured on
+ * Arm, and for x86-64 under an emulator, over both strands: hornbeamlet_compare
+ * and hornbeamlet_need worked on a thread with 924 kB of stack and crashed with
+ * 912 kB; hornbeamlet_stopped worked with 860 kB and crashed with 848 kB. Short
+ * sequences take as much as long ones. The calls for frames take less than
+ * 20 kB. Too small a stack does no other harm than the crash: it is touched
+ * page by page, so the page that guards it is met first.
+ *
+ * Some systems give less to a thread other than the main one: musl 128 kB,
+ * macOS 512 kB. Ask for at least 2 MB, which leaves room for the caller:
+ *
+ *   pthread_attr_setstacksize(&attributes, 2 * 1024 * 1024);
+ *
  * EXAMPLE
  *
- *   uint64_t answer[HORNBEAMLET_ANSWER];
- *   uint64_t records = hornbeamlet_need(11, 300, 20, 100, HORNBEAMLET_BOTH,
- *                                       s, s_len, t, t_len);
- *   if (records >= HORNBEAMLET_REFUSED)
- *       return refused(records - HORNBEAMLET_REFUSED);
- *   size_t work_len = HORNBEAMLET_RECORD * records;
- *   uint32_t *work = malloc((work_len + 1) * sizeof *work);
- *   hornbeamlet_compare(11, 300, 20, 100, HORNBEAMLET_BOTH,
- *                       s, s_len, t, t_len,
- *                       work, work_len, list, list_len, answer);
+ * A whole program: cc -Iinclude example.c native/libhornbeamlet.a. It lends the
+ * records that are needed and list room for one entry, and then as much as
+ * refusal 8 names. Any other refusal is told by hornbeamlet_compare with its
+ * particulars, so that of hornbeamlet_need is passed over.
  *
- * (One number more than needed, since malloc(0) may give a null pointer.)
+ *   #include "hornbeamlet.h"
+ *
+ *   #include <inttypes.h>
+ *   #include <stdio.h>
+ *   #include <stdlib.h>
+ *
+ *   enum { K = 13, B = 300, A = 20, M = 20, LIST_SHORT = 8 };
+ *
+ *   static const uint8_t first[] =
+ *       "ACGTTGCAAGTCCATGGATCTTAGCCGATACCGTAAGCTC";
+ *   static const uint8_t second[] =
+ *       "GAGCTTACGGTATCGGCTAACCACGTTGCAAGTCCATGGATC";
+ *   static const size_t first_len = sizeof first - 1;
+ *   static const size_t second_len = sizeof second - 1;
+ *
+ *   static uint32_t *lend(uint32_t *room, size_t numbers)
+ *   {
+ *       room = realloc(room, (numbers + 1) * sizeof *room);
+ *       if (room == NULL)
+ *           exit(2);
+ *       return room;
+ *   }
+ *
+ *   static void print_entry(const uint32_t *e)
+ *   {
+ *       printf("%" PRIu32 " to %" PRIu32 ", ", e[0], e[1]);
+ *       printf("%" PRIu32 " to %" PRIu32 ", ", e[2], e[3]);
+ *       printf("weight %" PRIu32 ", %s\n", e[4], e[5] ? "reverse" : "forward");
+ *   }
+ *
+ *   int main(void)
+ *   {
+ *       uint64_t answer[HORNBEAMLET_ANSWER];
+ *       uint64_t records = hornbeamlet_need(K, B, A, M, HORNBEAMLET_BOTH,
+ *                                           first, first_len,
+ *                                           second, second_len);
+ *       size_t work_len = 0, list_len = HORNBEAMLET_ENTRY, i;
+ *       uint32_t *work, *list = NULL;
+ *
+ *       if (records < HORNBEAMLET_REFUSED)
+ *           work_len = HORNBEAMLET_RECORD * (size_t)records;
+ *       work = lend(NULL, work_len);
+ *       for (;;) {
+ *           list = lend(list, list_len);
+ *           hornbeamlet_compare(K, B, A, M, HORNBEAMLET_BOTH,
+ *                               first, first_len, second, second_len,
+ *                               work, work_len, list, list_len, answer);
+ *           if (answer[0] != LIST_SHORT)
+ *               break;
+ *           list_len = HORNBEAMLET_ENTRY * (size_t)answer[2];
+ *       }
+ *       if (answer[0] != 0)
+ *           fprintf(stderr, "refusal %" PRIu64 ", sequence %" PRIu64
+ *                   ", detail %" PRIu64 "\n", answer[0], answer[1], answer[2]);
+ *       for (i = 0; i < answer[3]; i++)
+ *           print_entry(list + HORNBEAMLET_ENTRY * i);
+ *       free(list);
+ *       free(work);
+ *       return answer[0] != 0;
+ *   }
+ *
+ * (One number more than needed, since realloc for 0 may give a null pointer.)
  */
 #ifndef HORNBEAMLET_H
 #define HORNBEAMLET_H

@@ -1,65 +1,136 @@
-//! Refusals, strands and numbers in plain words.
+//! Refusals, listings without a clause, strands and versions in plain words.
 
-use crate::files::Record;
-use hornbeamlet::{Refusal, Settings, Strand, FORWARD};
+use asked::numbers::{self, grouped};
+use asked::records::Record;
+use asked::Sequences;
+use hornbeamlet::{Answer, Refusal, Settings, Strand, Strands, A, B, K, KIT, M, VERSION};
+use std::ops::RangeInclusive;
 
-/// A refusal with its number, its sequence and its place.
-pub fn refused(settings: Settings, sequences: [&Record; 2], refusal: Refusal) -> String {
-    let record = match refusal.sequence {
-        1 => sequences[0],
-        _ => sequences[1],
+/// The command's version, and the kit that the library was proved with.
+pub fn version() -> String {
+    format!("annex {VERSION}, proved with {KIT}")
+}
+
+/// A refusal of the comparison with a second sequence, with its number, its
+/// sequence and its place.
+pub fn refused(
+    settings: Settings,
+    sequences: &Sequences,
+    number: usize,
+    refusal: Refusal,
+) -> String {
+    let named = match refusal.sequence {
+        1 => Named::first(sequences),
+        _ => Named::second(sequences, number),
     };
     let why = match refusal.number {
-        1 => setting("k", "the k-mer length", settings.k, "1 to 31"),
-        2 => setting("b", "the gap bound", settings.b, "1 to 1,024"),
-        3 => setting("a", "the repeat cap", settings.a, "1 to 1,024"),
-        4 => setting("m", "the least span", settings.m, "0 to 16,384"),
-        5 => too_long(refusal, record),
-        6 => bad_letter(refusal, record),
-        9 => no_strand(settings.strand),
-        _ => format!("sequence {}, detail {}", refusal.sequence, refusal.detail),
+        1 => setting("k", "the k-mer length", settings.k, K),
+        2 => setting("b", "the gap bound", settings.b, B),
+        3 => setting("a", "the repeat cap", settings.a, A),
+        4 => setting("m", "the least span", settings.m, M),
+        5 => named.too_long(),
+        6 => named.bad_letter(refusal.detail),
+        _ => return refusal.to_string(),
     };
     format!("refused, number {}: {why}", refusal.number)
 }
 
-fn setting(name: &str, meaning: &str, value: u32, accepted: &str) -> String {
-    let value = grouped(u64::from(value));
-    format!("{name}, {meaning}, is {value}; {accepted} is accepted (-{name})")
+fn setting(name: &str, meaning: &str, value: u32, accepted: RangeInclusive<u32>) -> String {
+    let numbers = [value, *accepted.start(), *accepted.end()];
+    let [value, least, greatest] = numbers.map(|number| grouped(u64::from(number)));
+    format!("{name}, {meaning}, is {value}; {least} to {greatest} is accepted (-{name})")
 }
 
-/// The option names no such strand, but the library may still say so.
-fn no_strand(strand: u32) -> String {
-    let value = grouped(u64::from(strand));
-    format!("the strand is {value}; 0, forward, and 1, both, are accepted (--strand)")
-}
-
-fn too_long(refusal: Refusal, record: &Record) -> String {
-    let letters = grouped(record.letters.len() as u64);
-    let which = which(refusal);
-    let Record { name, file, .. } = record;
-    format!(
-        "the {which} sequence, {name} in {file}, has {letters} letters; \
-         at most 16,384 are accepted"
-    )
-}
-
-fn bad_letter(refusal: Refusal, record: &Record) -> String {
-    let place = refusal.detail as usize;
-    let (letter, hint) = letter_at(&record.letters, place);
-    let (which, line) = (which(refusal), record.line_of(place));
-    let place = grouped(refusal.detail);
-    let Record { name, file, .. } = record;
-    format!(
-        "the {which} sequence, {name}, has {letter} at place {place}, \
-         on line {line} of {file}; {hint}"
-    )
-}
-
-fn which(refusal: Refusal) -> &'static str {
-    match refusal.sequence {
-        1 => "first",
-        _ => "second",
+/// Why the listing with a second sequence has no clause: a sequence that has no
+/// k-mer is told before anything is said of both.
+pub fn no_clause(
+    settings: Settings,
+    sequences: &Sequences,
+    number: usize,
+    answer: Answer,
+) -> String {
+    let both = [Named::first(sequences), Named::second(sequences, number)];
+    let without: Vec<String> = both
+        .iter()
+        .filter_map(|it| it.no_kmer(settings.k))
+        .collect();
+    let strands = match settings.strand {
+        Strands::Forward => "on the forward strand",
+        Strands::Both => "on either strand",
+    };
+    if !without.is_empty() {
+        without.join("; ")
+    } else if answer.matches == 0 {
+        format!("the two have no k-mer in common that is used, {strands}")
+    } else {
+        let least = grouped(u64::from(settings.m));
+        format!("none would span {least} bases in both sequences, {strands}")
     }
+}
+
+/// A record, and which of all it is.
+struct Named<'a> {
+    which: String,
+    record: &'a Record,
+}
+
+impl Named<'_> {
+    fn first(sequences: &Sequences) -> Named<'_> {
+        Named {
+            which: "the first sequence".to_string(),
+            record: &sequences.first,
+        }
+    }
+
+    fn second(sequences: &Sequences, number: usize) -> Named<'_> {
+        Named {
+            which: sequences.which(number),
+            record: &sequences.seconds[number - 1],
+        }
+    }
+
+    fn too_long(&self) -> String {
+        let letters = numbers::letters(self.record.letters.len());
+        let Record { name, file, .. } = self.record;
+        let which = &self.which;
+        format!("{which}, {name} in {file}, has {letters}; at most 16,384 are accepted")
+    }
+
+    fn bad_letter(&self, place: u64) -> String {
+        let Record {
+            name,
+            file,
+            letters,
+            ..
+        } = self.record;
+        let (letter, hint) = letter_at(letters, place as usize);
+        let line = self.record.line_of(place as usize);
+        let (which, place) = (&self.which, grouped(place));
+        format!("{which}, {name}, has {letter} at place {place}, on line {line} of {file}; {hint}")
+    }
+
+    /// Why the record has no k-mer, if it has none.
+    fn no_kmer(&self, k: u32) -> Option<String> {
+        let Record { name, letters, .. } = self.record;
+        let why = match letters.len() {
+            0 => "has no letters".to_string(),
+            few if few < k as usize => {
+                let letters = numbers::letters(few);
+                format!("has {letters}, fewer than the k-mer length, {k}")
+            }
+            _ if !has_kmer(letters, k as usize) => {
+                format!("has no {k} letters in a row that are A, C, G or T, so no k-mer")
+            }
+            _ => return None,
+        };
+        Some(format!("{}, {name}, {why}", self.which))
+    }
+}
+
+/// Whether k letters in a row are bases.
+fn has_kmer(letters: &[u8], k: usize) -> bool {
+    let other = |letter: &u8| !b"ACGT".contains(letter);
+    letters.split(other).any(|bases| bases.len() >= k)
 }
 
 /// What stands at a place, and what to do about it.
@@ -67,18 +138,30 @@ fn letter_at(letters: &[u8], place: usize) -> (String, &'static str) {
     let from = letters.get(place.wrapping_sub(1)..).unwrap_or_default();
     let character = first_character(from);
     let letter = match character {
-        Some(' ') => "a blank".to_string(),
-        Some('\t') => "a tab".to_string(),
-        Some('\r') => "a carriage return".to_string(),
-        Some(character) => format!("the letter '{character}'"),
+        Some(character) => shown(character),
         None => format!("the byte {:02X}", from.first().unwrap_or(&0)),
     };
     let hint = match character {
+        Some('u' | 'U') => "neither u nor U is accepted; write T for each, a capital",
         Some('a'..='z') => "lower case is not accepted, capitals are",
-        Some('U') => "U is not accepted, T is",
         _ => "the letters are ABCDGHKMNRSTVWY",
     };
     (letter, hint)
+}
+
+/// A character so that it can be told from any other: one that cannot be seen, or
+/// looks like another, by its code point.
+fn shown(character: char) -> String {
+    let code_point = format!("U+{:04X}", u32::from(character));
+    match character {
+        ' ' => "a blank".to_string(),
+        '\t' => "a tab".to_string(),
+        '!'..='~' => format!("the letter '{character}'"),
+        _ if character.is_whitespace() || character.escape_debug().len() > 1 => {
+            format!("the invisible letter {code_point}")
+        }
+        _ => format!("the letter '{character}' ({code_point})"),
+    }
 }
 
 /// The character that begins a text, if its bytes make one.
@@ -88,10 +171,10 @@ fn first_character(text: &[u8]) -> Option<char> {
 }
 
 /// The strand setting as the option --strand names it.
-pub fn strand_setting(strand: u32) -> &'static str {
+pub fn strand_setting(strand: Strands) -> &'static str {
     match strand {
-        FORWARD => "forward",
-        _ => "both",
+        Strands::Forward => "forward",
+        Strands::Both => "both",
     }
 }
 
@@ -103,52 +186,41 @@ pub fn strand(strand: Strand) -> &'static str {
     }
 }
 
-/// A number with a comma before every third digit from the right.
-pub fn grouped(number: u64) -> String {
-    match number / 1_000 {
-        0 => number.to_string(),
-        thousands => format!("{},{:03}", grouped(thousands), number % 1_000),
-    }
-}
-
 #[cfg(test)]
 mod tests {
     use super::*;
-
-    #[test]
-    fn numbers_are_grouped_by_three_digits() {
-        let numbers = [0, 7, 999, 1_000, 16_384, 123_456, 4_294_967_296];
-        let texts = numbers.map(grouped);
-        let expected = [
-            "0",
-            "7",
-            "999",
-            "1,000",
-            "16,384",
-            "123,456",
-            "4,294,967,296",
-        ];
-        assert_eq!(texts, expected);
-    }
-
-    #[test]
-    fn a_strand_that_is_none_is_told_with_those_that_are() {
-        let told = "the strand is 1,000; 0, forward, and 1, both, are accepted (--strand)";
-        assert_eq!(no_strand(1_000), told);
-    }
 
     #[test]
     fn letters_are_shown_as_they_are_read() {
         let shown = |letters: &[u8], place| letter_at(letters, place).0;
         assert_eq!(shown(b"ACx", 3), "the letter 'x'");
         assert_eq!(shown(b"A C", 2), "a blank");
-        assert_eq!(shown("Aé".as_bytes(), 2), "the letter 'é'");
+        assert_eq!(shown("Aé".as_bytes(), 2), "the letter 'é' (U+00E9)");
         assert_eq!(shown(b"A\xFFC", 2), "the byte FF");
-        assert_eq!(shown(b"A\rC", 2), "a carriage return");
-        assert_eq!(
-            letter_at(b"u", 1).1,
-            "lower case is not accepted, capitals are"
-        );
-        assert_eq!(letter_at(b"U", 1).1, "U is not accepted, T is");
+        assert_eq!(shown(b"A\tC", 2), "a tab");
+    }
+
+    /// A Cyrillic capital looks as A does, and the others as nothing at all.
+    #[test]
+    fn what_cannot_be_seen_is_shown_by_its_code_point() {
+        assert_eq!(shown('\u{410}'), "the letter '\u{410}' (U+0410)");
+        for code_point in [0xA0, 0xAD, 0x200B, 0x200E, 0x2028, 0x301, 0xFEFF] {
+            let told = format!("the invisible letter U+{code_point:04X}");
+            assert_eq!(shown(char::from_u32(code_point).unwrap()), told);
+        }
+    }
+
+    #[test]
+    fn u_gets_one_advice_in_either_case() {
+        let advice = |letters| letter_at(letters, 1).1;
+        assert_eq!(advice(b"u"), advice(b"U"));
+        assert!(advice(b"u").contains("write T"));
+        assert_eq!(advice(b"a"), "lower case is not accepted, capitals are");
+    }
+
+    #[test]
+    fn bases_in_a_row_make_a_kmer() {
+        assert!(has_kmer(b"NACGTN", 4) && !has_kmer(b"NACGTN", 5));
+        assert!(!has_kmer(b"NNNN", 1) && !has_kmer(b"", 1) && has_kmer(b"NA", 1));
     }
 }

@@ -4,7 +4,7 @@ use crate::jobs::{Job, KINDS};
 use crate::lent::Lent;
 use crate::table::{self, bytes, count, duration, three_digits, times};
 use crate::timing::{medians_in_turn, ratio};
-use hornbeamlet::{Answer, Library, Settings};
+use hornbeamlet::{Answer, Entered, Library};
 use std::time::Duration;
 
 /// The reference is left out where it would take longer than this.
@@ -88,7 +88,7 @@ fn tasks(jobs: &[Job], lent: &[Lent]) -> Vec<Task> {
 
 /// The reference's answer in the library's terms.
 fn by_reference(job: &Job, work: &mut [u32], list: &mut [u32]) -> Answer {
-    let Settings { k, b, a, m, strand } = job.settings;
+    let Entered { k, b, a, m, strand } = job.settings.into();
     let settings = reference::Settings { k, b, a, m, strand };
     let given = reference::compare(settings, &job.first, &job.second, work, list);
     Answer {

@@ -1,21 +1,8 @@
 //! The jobs that are measured, the same in every run.
 
-use hornbeamlet::{Settings, BOTH, FORWARD};
+use hornbeamlet::{Settings, Strands, LONGEST};
 use reference::random::Random;
 use std::collections::HashMap;
-
-/// The longest sequence that is accepted.
-const LONGEST: usize = 16_384;
-
-/// The settings of the command `annex` where none are given, but on the forward
-/// strand alone: a job over both is two sweeps, and has a line of its own.
-const ORDINARY: Settings = Settings {
-    k: 11,
-    b: 300,
-    a: 20,
-    m: 100,
-    strand: FORWARD,
-};
 
 /// The kinds of ordinary pairs, and how many letters of a thousand differ.
 pub const KINDS: [(&str, usize); 4] = [("1 %", 10), ("5 %", 50), ("10 %", 100), ("repeats", 10)];
@@ -53,6 +40,15 @@ fn totals<'a>(sequences: &[&'a [u8]], k: usize) -> HashMap<&'a [u8], u32> {
         *totals.entry(kmer).or_default() += 1;
     }
     totals
+}
+
+/// The settings of the command `annex` where none are given, but on the forward
+/// strand alone: a job over both is two sweeps, and has a line of its own.
+fn ordinary_settings() -> Settings {
+    Settings {
+        strand: Strands::Forward,
+        ..Settings::default()
+    }
 }
 
 /// The jobs on which two libraries are compared, in groups to be measured each
@@ -107,7 +103,7 @@ fn with_a_copy(random: &mut Random, name: String, first: Vec<u8>, differing: usi
     second.truncate(LONGEST);
     Job {
         name,
-        settings: ORDINARY,
+        settings: ordinary_settings(),
         first,
         second,
     }
@@ -116,7 +112,7 @@ fn with_a_copy(random: &mut Random, name: String, first: Vec<u8>, differing: usi
 fn over_both_strands(job: &Job) -> Job {
     let mut job = job.clone();
     job.name += ", both strands";
-    job.settings.strand = BOTH;
+    job.settings.strand = Strands::Both;
     job
 }
 
@@ -181,7 +177,10 @@ pub fn over_the_cap() -> Vec<Job> {
     let families = with_a_copy(&mut random, name, first, 10);
     let unused = Job {
         name: "16,384, all over the cap".to_string(),
-        settings: Settings { k: 5, ..ORDINARY },
+        settings: Settings {
+            k: 5,
+            ..ordinary_settings()
+        },
         first: all_words(&mut random, b"AC"),
         second: all_words(&mut random, b"AC"),
     };
@@ -222,7 +221,7 @@ fn worst_job(name: &str, k: u32, first: Vec<u8>, second: Vec<u8>) -> Job {
             b: 1_024,
             a: 1_024,
             m: 0,
-            strand: FORWARD,
+            strand: Strands::Forward,
         },
         first,
         second,
@@ -352,8 +351,14 @@ mod tests {
         }
     }
 
-    /// Where repeats are over the cap, k-mers at their ends and at a changed
-    /// letter are not.
+    /// The share of a sequence's places whose k-mer lies whole in a copied unit.
+    fn share_in_units(job: &Job, families: &Families) -> f64 {
+        let places = families.unit + 1 - job.settings.k as usize;
+        places as f64 / (families.unit + families.once) as f64
+    }
+
+    /// Of the k-mers that lie whole in a repeat, those at a changed letter are not
+    /// over the cap.
     #[test]
     fn the_jobs_over_the_cap_are_as_their_names_say() {
         let jobs = over_the_cap();
@@ -364,9 +369,11 @@ mod tests {
             assert!(job.first.len() == LONGEST && job.second.len() <= LONGEST);
         }
         let [repeats, families, unused] = [0, 1, 2].map(|at| &jobs[at]);
-        assert!((0.3..0.5).contains(&repeats.share_above(8)));
-        assert!((0.6..0.75).contains(&families.share_above(20)));
-        assert!(families.share_above(100) > 0.55);
+        let in_units = share_in_units(repeats, &OF_EIGHT);
+        assert!((0.7..0.8).contains(&(repeats.share_above(8) / in_units)));
+        let in_units = share_in_units(families, &OF_SIXTY_FOUR);
+        assert!((0.9..1.0).contains(&(families.share_above(20) / in_units)));
+        assert!((0.8..0.9).contains(&(families.share_above(100) / in_units)));
         let totals = totals(&[&unused.first, &unused.second], 5);
         assert!(totals.len() == 32 && totals.values().all(|&total| total > 1_000));
     }

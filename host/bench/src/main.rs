@@ -2,15 +2,20 @@
 //! many runs; what one program takes is given as a multiple of another's, both
 //! measured here and now, since only such ratios carry over.
 //!
-//! `bench --before PATH` compares the library with an earlier one instead, which
-//! the `bench` at the path is linked with: see tools/bench-before. `bench
-//! --serve` is either side of that.
+//! `bench --k` tells instead what k-mers of other lengths do to a listing, and
+//! times nothing.
+//!
+//! `bench --before BENCH ANNEX` compares with an earlier revision: BENCH is a
+//! `bench` of this source that is linked with the earlier library, and ANNEX the
+//! earlier command. See tools/bench-before. `bench --serve` is either side of the
+//! two libraries.
 
 #![forbid(unsafe_code)]
 
 mod bounds;
 mod calls;
 mod jobs;
+mod lengths;
 mod lent;
 mod processes;
 mod server;
@@ -34,8 +39,14 @@ fn main() -> ExitCode {
         [word] if word == server::SERVE => {
             with_library(|library| server::serve(library, stdin().lock(), stdout()))
         }
-        [word, path] if word == "--before" => versions::print(Path::new(path)),
-        _ => Err("usage: bench [--before PATH | --serve]".to_string()),
+        [word] if word == "--k" => {
+            with_library(lengths::print);
+            Ok(())
+        }
+        [word, bench, annex] if word == "--before" => {
+            versions::print(Path::new(bench), Path::new(annex))
+        }
+        _ => Err("usage: bench [--k | --before BENCH ANNEX | --serve]".to_string()),
     };
     match end {
         Ok(()) => ExitCode::SUCCESS,

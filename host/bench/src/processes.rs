@@ -1,11 +1,11 @@
-//! Whole processes, from their start to their end: `annex`, and the field's own
-//! programs where they are installed.
+//! Whole processes, from their start to their end: `annex`, the field's own
+//! programs where they are installed, and an earlier `annex`.
 
 use crate::calls::Call;
 use crate::jobs::Job;
 use crate::table::{self, duration, times};
-use crate::timing::{medians_in_turn, ratio};
-use hornbeamlet::FORWARD;
+use crate::timing::{medians_of_rounds, ratio, time};
+use hornbeamlet::{Settings, Strands};
 use std::env;
 use std::fs;
 use std::path::{Path, PathBuf};
@@ -16,45 +16,80 @@ use std::time::Duration;
 struct Program {
     name: &'static str,
     path: PathBuf,
-    words: fn(&Job) -> &'static [&'static str],
+    /// The words of a job, a space between two.
+    words: fn(&Job) -> String,
     /// Whether the file that is searched in comes first.
     second_first: bool,
 }
 
-/// The programs that are compared: `annex`, then `annex` with its help page for
-/// a start alone, then the others.
+/// The programs that are compared, and the folder of their files.
 pub struct Programs {
     found: Vec<Program>,
     folder: PathBuf,
 }
 
-/// How many of them are `annex`.
+/// How many of those that are found are `annex`.
 const OWN: usize = 2;
 
 impl Programs {
-    /// Builds `annex`, which is not a part of this program, and looks for the
-    /// others.
+    /// `annex`, then `annex` with its help page for a start alone, then the
+    /// field's own that are installed.
     pub fn find() -> Result<Programs, String> {
-        let here = env::current_exe().map_err(|error| error.to_string())?;
-        build_annex(&here)?;
-        let folder = here.with_file_name("bench-files");
-        fs::create_dir_all(&folder).map_err(|error| error.to_string())?;
-        let annex = |words: fn(&Job) -> _| Program {
-            name: "annex",
-            path: here.with_file_name("annex"),
-            words,
-            second_first: false,
-        };
+        let path = built_annex()?;
         let found = [
-            Some(annex(strand_words)),
-            Some(annex(|_| &["--help"])),
-            other("minimap2", |_| &["-x", "asm20"]),
-            other("mummer", |_| &["-maxmatch", "-l", "15"]),
+            Some(annex(&path, setting_words)),
+            Some(annex(&path, |_| "--help".to_string())),
+            other("minimap2", |_| "-x asm20".to_string()),
+            other("mummer", |_| "-maxmatch -l 15".to_string()),
         ];
-        Ok(Programs {
-            found: found.into_iter().flatten().collect(),
-            folder,
+        Programs::new(found.into_iter().flatten().collect())
+    }
+
+    /// The earlier `annex` at the path, then the present one. Both are copied first:
+    /// how a file was written makes a process that is started from it some
+    /// hundredths faster or slower.
+    pub fn versions(before: &Path) -> Result<Programs, String> {
+        let folder = folder()?;
+        let copied = |from: &Path, name: &str| {
+            let path = folder.join(name);
+            let copied = fs::copy(from, &path).map_err(|error| error.to_string());
+            copied.map(|_| annex(&path, setting_words))
+        };
+        let before = copied(before, "annex-before")?;
+        let after = copied(&built_annex()?, "annex-after")?;
+        Programs::new(vec![before, after])
+    }
+
+    fn new(found: Vec<Program>) -> Result<Programs, String> {
+        let folder = folder()?;
+        Ok(Programs { found, folder })
+    }
+
+    /// The median times of all programs, job by job. They take turns, and each
+    /// round another one begins: what ran just before it makes a process some
+    /// hundredths faster or slower.
+    pub fn medians<'a>(&self, jobs: impl Iterator<Item = &'a Job>) -> Vec<Duration> {
+        let jobs = jobs.map(|job| (job, self.write(job)));
+        let jobs: Vec<(&Job, [PathBuf; 2])> = jobs.collect();
+        let mut begin = 0;
+        medians_of_rounds(|| {
+            begin += 1;
+            let times = jobs
+                .iter()
+                .flat_map(|(job, files)| self.times(job, files, begin));
+            times.collect()
         })
+    }
+
+    /// The times of all programs on one pair, in their order, whichever begins.
+    fn times(&self, job: &Job, files: &[PathBuf; 2], begin: usize) -> Vec<Duration> {
+        let programs = self.found.len();
+        let mut times = vec![Duration::ZERO; programs];
+        for turn in begin..begin + programs {
+            let at = turn % programs;
+            times[at] = time(|| self.found[at].run(job, files));
+        }
+        times
     }
 
     /// The files of a job, written once.
@@ -70,32 +105,47 @@ impl Programs {
     }
 }
 
-/// The strand that `annex` is asked for.
-fn strand_words(job: &Job) -> &'static [&'static str] {
-    match job.settings.strand {
-        FORWARD => &["--strand", "forward"],
-        _ => &["--strand", "both"],
-    }
+/// All settings that `annex` is asked for: an earlier one may have had others
+/// where none are given.
+fn setting_words(job: &Job) -> String {
+    let Settings { k, b, a, m, strand } = job.settings;
+    let strand = match strand {
+        Strands::Forward => "forward",
+        Strands::Both => "both",
+    };
+    format!("-k {k} -b {b} -a {a} -m {m} --strand {strand}")
 }
 
 impl Program {
     fn run(&self, job: &Job, [first, second]: &[PathBuf; 2]) {
         let mut command = silent(&self.path);
-        command.args((self.words)(job));
+        command.args((self.words)(job).split(' '));
         if self.second_first {
             command.args([second, first]);
         } else {
             command.args([first, second]);
         }
         let done = command.status().is_ok_and(|status| status.success());
-        assert!(done, "{} failed", self.name);
+        assert!(done, "{} failed", self.path.display());
     }
 }
 
-/// Builds it beside this program, and from the folder whose .cargo/config.toml
-/// says how it is linked.
-fn build_annex(here: &Path) -> Result<(), String> {
+fn here() -> Result<PathBuf, String> {
+    env::current_exe().map_err(|error| error.to_string())
+}
+
+/// The folder of what is written for the measurements, beside this program.
+fn folder() -> Result<PathBuf, String> {
+    let folder = here()?.with_file_name("bench-files");
+    let made = fs::create_dir_all(&folder).map_err(|error| error.to_string());
+    made.map(|()| folder)
+}
+
+/// The path of `annex`, which is not a part of this program: it is built beside
+/// it, and from the folder whose .cargo/config.toml says how it is linked.
+fn built_annex() -> Result<PathBuf, String> {
     let cargo = env::var_os("CARGO").unwrap_or("cargo".into());
+    let here = here()?;
     let target = here
         .ancestors()
         .nth(2)
@@ -107,13 +157,22 @@ fn build_annex(here: &Path) -> Result<(), String> {
         .arg(target)
         .status();
     match built {
-        Ok(status) if status.success() => Ok(()),
+        Ok(status) if status.success() => Ok(here.with_file_name("annex")),
         _ => Err("annex could not be built".to_string()),
     }
 }
 
+fn annex(path: &Path, words: fn(&Job) -> String) -> Program {
+    Program {
+        name: "annex",
+        path: path.to_path_buf(),
+        words,
+        second_first: false,
+    }
+}
+
 /// A program of the field, or a note that it is not installed.
-fn other(name: &'static str, words: fn(&Job) -> &'static [&'static str]) -> Option<Program> {
+fn other(name: &'static str, words: fn(&Job) -> String) -> Option<Program> {
     if silent(Path::new(name)).arg("--version").status().is_err() {
         println!("{name} is not installed and is left out.\n");
         return None;
@@ -146,17 +205,10 @@ pub struct Processes<'a> {
 impl<'a> Processes<'a> {
     /// Runs all programs on all pairs, in turn.
     pub fn measure(programs: &'a Programs, calls: &'a [Call]) -> Processes<'a> {
-        let jobs = calls.iter().map(|it| (&it.job, programs.write(&it.job)));
-        let jobs: Vec<(&Job, [PathBuf; 2])> = jobs.collect();
-        let tasks = jobs
-            .iter()
-            .flat_map(|job| programs.found.iter().map(move |it| (it, job)));
-        let tasks: Vec<(&Program, &(&Job, [PathBuf; 2]))> = tasks.collect();
-        let medians = medians_in_turn(&tasks, |(program, (job, files))| program.run(job, files));
         Processes {
             programs,
             calls,
-            medians,
+            medians: programs.medians(calls.iter().map(|it| &it.job)),
         }
     }
 

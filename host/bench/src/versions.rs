@@ -1,6 +1,8 @@
-//! The library before a change and after it, taking turns in one run.
+//! The library before a change and after it, taking turns in one run, and then
+//! the command likewise.
 
 use crate::jobs::{self, Job};
+use crate::processes::Programs;
 use crate::server::{Reply, Server};
 use crate::table::{self, count, duration, percent, times};
 use crate::timing::{medians_of_rounds, ratio};
@@ -17,20 +19,47 @@ const HEADINGS: [&str; 6] = [
     "over the cap",
 ];
 
-/// The table of all jobs that are compared. The path is that of a `bench` of the
-/// same source with the library before the change.
-pub fn print(before: &Path) -> Result<(), String> {
-    let complaint = |error| format!("{}: {error}", before.display());
-    let before = before.canonicalize().map_err(complaint)?;
+const PROCESS_HEADINGS: [&str; 4] = ["pair", "before", "after", "after : before"];
+
+/// Both tables. The paths are those of a `bench` of the same source with the
+/// library before the change, and of the `annex` before it.
+pub fn print(bench: &Path, annex: &Path) -> Result<(), String> {
     let after = env::current_exe().map_err(|error| error.to_string())?;
-    let programs = [before, after];
+    let benches = [found(bench)?, after];
+    let programs = Programs::versions(&found(annex)?)?;
+    print_calls(&benches);
+    print_processes(&programs);
+    Ok(())
+}
+
+fn found(path: &Path) -> Result<PathBuf, String> {
+    let complaint = |error| format!("{}: {error}", path.display());
+    path.canonicalize().map_err(complaint)
+}
+
+/// The table of calls on all jobs that are compared.
+fn print_calls(programs: &[PathBuf; 2]) {
     let mut rows = Vec::new();
     for group in jobs::compared() {
-        rows.extend(measure(&programs, rows.len(), &group));
+        rows.extend(measure(programs, rows.len(), &group));
     }
     let title = "The call `compare` before the change and after it";
     table::print(title, &HEADINGS, &rows);
-    Ok(())
+}
+
+/// The table of whole processes on ordinary pairs. What they print is not
+/// compared, as the command may print something else after a change.
+fn print_processes(programs: &Programs) {
+    let jobs = jobs::ordinary();
+    let medians = programs.medians(jobs.iter());
+    let row = |(job, medians): (&Job, &[Duration])| {
+        let (before, after) = (medians[0], medians[1]);
+        let ratio = times(ratio(after, before));
+        vec![job.name.clone(), duration(before), duration(after), ratio]
+    };
+    let rows: Vec<Vec<String>> = jobs.iter().zip(medians.chunks(2)).map(row).collect();
+    let title = "Whole processes of `annex` before the change and after it";
+    table::print(title, &PROCESS_HEADINGS, &rows);
 }
 
 /// The rows of a group of jobs, the first of which has the given index. Each

@@ -5,7 +5,7 @@
 //! borrows keep rooms and answer apart from everything else. That is all the
 //! library asks.
 
-use crate::{Answer, Library, Settings};
+use crate::{Answer, Entered, Library};
 
 /// The answer as it crosses the boundary.
 type Numbers = [u64; 7];
@@ -13,7 +13,7 @@ type Numbers = [u64; 7];
 /// Makes of each function of the library a safe one of the same name. The list
 /// has to be that of `include/hornbeamlet.h`, in Rust's types:
 ///
-/// - `Settings` for the numbers of the settings,
+/// - `Entered` for the numbers of the settings,
 /// - `&[u8]`, `&mut [u32]` and their like for a pointer and a length,
 /// - `&mut [u64; 7]` and its like for a pointer to just so many numbers,
 /// - `u32` and its like for a number.
@@ -23,9 +23,9 @@ macro_rules! calls {
     };
 
     // What is next in the list: as it is taken, and what crosses for it.
-    (@next $made:tt $name:ident: Settings, $($list:tt)*) => {
+    (@next $made:tt $name:ident: Entered, $($list:tt)*) => {
         calls!(@add $made
-            {Settings { k, b, a, m, strand }: Settings}
+            {Entered { k, b, a, m, strand }: Entered}
             {k => u32, b => u32, a => u32, m => u32, strand => u32}
             $($list)*);
     };
@@ -76,10 +76,10 @@ macro_rules! calls {
 }
 
 calls! {
-    fn hornbeamlet_need(settings: Settings, first: &[u8], second: &[u8]) -> u64;
+    fn hornbeamlet_need(settings: Entered, first: &[u8], second: &[u8]) -> u64;
 
     fn hornbeamlet_compare(
-        settings: Settings,
+        settings: Entered,
         first: &[u8],
         second: &[u8],
         work: &mut [u32],
@@ -88,7 +88,7 @@ calls! {
     );
 
     fn hornbeamlet_stopped(
-        settings: Settings,
+        settings: Entered,
         first: &[u8],
         second: &[u8],
         work: &mut [u32],
@@ -105,34 +105,37 @@ impl Library {
     /// How many records of work room the job needs: W, over both strands the
     /// larger of the two, or [`crate::REFUSED`] plus the number of a refusal,
     /// 1 to 6 or 9.
-    pub fn need(&self, settings: Settings, first: &[u8], second: &[u8]) -> u64 {
-        hornbeamlet_need(settings, first, second)
+    pub fn need(&self, settings: impl Into<Entered>, first: &[u8], second: &[u8]) -> u64 {
+        hornbeamlet_need(settings.into(), first, second)
     }
 
     /// The two sequences compared: entries in the list room, the forward ones
     /// first, then zeros, and zeros in the work room.
     pub fn compare(
         &self,
-        settings: Settings,
+        settings: impl Into<Entered>,
         first: &[u8],
         second: &[u8],
         work: &mut [u32],
         list: &mut [u32],
     ) -> Answer {
+        let settings = settings.into();
         answered(|answer| hornbeamlet_compare(settings, first, second, work, list, answer))
     }
 
     /// The stopped sweep of one strand: records of the row and the b rows before
     /// it in the work room, then zeros. On the reverse strand their columns are
-    /// those of the second sequence turned round.
+    /// those of the second sequence turned round. [`crate::Settings::on`] names the
+    /// strand.
     pub fn stopped(
         &self,
-        settings: Settings,
+        settings: impl Into<Entered>,
         first: &[u8],
         second: &[u8],
         work: &mut [u32],
         row: u32,
     ) -> Answer {
+        let settings = settings.into();
         answered(|answer| hornbeamlet_stopped(settings, first, second, work, row, answer))
     }
 

@@ -5,9 +5,9 @@
 //! All unsafe code of the host is in the module `boundary`.
 //!
 //! ```
-//! use hornbeamlet::{with_library, Settings, Strand, BOTH};
+//! use hornbeamlet::{with_library, Settings, Strand};
 //!
-//! let settings = Settings { k: 2, b: 2, a: 8, m: 0, strand: BOTH };
+//! let settings = Settings { k: 2, b: 2, a: 8, m: 0, ..Settings::default() };
 //! let listing = with_library(|library| library.list(settings, b"ACCGT", b"ACGGT")).unwrap();
 //! assert_eq!(listing.answer.matches, 7);
 //! assert_eq!(listing.entries[0].weight, 3);
@@ -22,10 +22,21 @@ pub mod kinds;
 #[forbid(unsafe_code)]
 mod listing;
 #[forbid(unsafe_code)]
+mod refusal;
+#[forbid(unsafe_code)]
 mod stack;
 
-pub use listing::{Entry, Listing, Refusal, Strand};
+pub use listing::{Entry, Listing};
+pub use refusal::Refusal;
+pub use settings::{
+    Entered, Settings, Strand, Strands, A, B, BOTH, FORWARD, K, LONGEST, M, REVERSE,
+};
 pub use stack::{with_library, Library};
+
+/// The version of the command and of this wrapper.
+pub const VERSION: &str = env!("CARGO_PKG_VERSION");
+/// The identity of the kit that the library was proved with.
+pub const KIT: &str = env!("HORNBEAMLET_KIT");
 
 /// Numbers of work room in one record.
 pub const RECORD: usize = 8;
@@ -35,31 +46,6 @@ pub const ENTRY: usize = 6;
 pub const LINE: usize = 135;
 /// What `need` and `write_frame` add to the number of a refusal.
 pub const REFUSED: u64 = 4_294_967_296;
-
-/// The strand setting for the second sequence as it stands.
-pub const FORWARD: u32 = 0;
-/// The strand setting of `compare` and `need` for the second sequence as it
-/// stands and, in a sweep of its own, turned round.
-pub const BOTH: u32 = 1;
-/// The strand setting of `stopped` for the second sequence turned round.
-pub const REVERSE: u32 = 1;
-
-/// The settings of a job. Any value may be asked for; those outside the
-/// library's table are refused by number.
-#[derive(Clone, Copy, Debug, PartialEq, Eq)]
-pub struct Settings {
-    /// The k-mer length, 1 to 31.
-    pub k: u32,
-    /// The gap bound, 1 to 1,024.
-    pub b: u32,
-    /// The repeat cap, 1 to 1,024.
-    pub a: u32,
-    /// The least span in bases, 0 to 16,384.
-    pub m: u32,
-    /// The strand: [`FORWARD`] or [`BOTH`], and [`FORWARD`] or [`REVERSE`] for
-    /// the stopped sweep.
-    pub strand: u32,
-}
 
 /// The seven numbers of an answer.
 #[derive(Clone, Copy, Debug, PartialEq, Eq)]

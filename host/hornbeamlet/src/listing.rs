@@ -1,6 +1,6 @@
 //! From settings and sequences to a listing, with rooms lent as needed.
 
-use crate::{Answer, Library, Settings, ENTRY, FORWARD, RECORD};
+use crate::{Answer, Entered, Library, Refusal, Strand, ENTRY, FORWARD, RECORD};
 
 /// Records the work room holds at the first try: 64 kB, enough for an ordinary
 /// pair, one full of repeats too. More would cost all of them time, as the library
@@ -15,15 +15,6 @@ const WORK_SHORT: u64 = 7;
 /// That of list room that is too short, whose detail is how many entries there
 /// are.
 const LIST_SHORT: u64 = 8;
-
-/// The strand of the second sequence on which an entry was found.
-#[derive(Clone, Copy, Debug, PartialEq, Eq)]
-pub enum Strand {
-    /// As the sequence stands.
-    Forward,
-    /// Turned round: read from its end, each letter as its complement.
-    Reverse,
-}
 
 /// One entry: the chain of a closed match, which goes no further, from its start
 /// to its last letters. On either strand the places are those of the sequences
@@ -79,17 +70,6 @@ pub struct Listing {
     pub entries: Vec<Entry>,
 }
 
-/// A refusal and its particulars.
-#[derive(Clone, Copy, Debug, PartialEq, Eq)]
-pub struct Refusal {
-    /// Its number, never 0.
-    pub number: u64,
-    /// 0, or the sequence refused.
-    pub sequence: u64,
-    /// Place, room or number of rows, by the number.
-    pub detail: u64,
-}
-
 impl Library {
     /// The listing of a job. Rooms of some size are lent at first and, where the
     /// library tells that one was short, just as large as it asks for: three calls
@@ -97,10 +77,11 @@ impl Library {
     /// or 9.
     pub fn list(
         &self,
-        settings: Settings,
+        settings: impl Into<Entered>,
         first: &[u8],
         second: &[u8],
     ) -> Result<Listing, Refusal> {
+        let settings = settings.into();
         let mut work = vec![0; RECORD * FIRST_RECORDS];
         let mut list = vec![0; ENTRY * FIRST_ENTRIES];
         loop {
@@ -115,12 +96,8 @@ impl Library {
 }
 
 fn listing(answer: Answer, list: &[u32]) -> Result<Listing, Refusal> {
-    if answer.number != 0 {
-        return Err(Refusal {
-            number: answer.number,
-            sequence: answer.sequence,
-            detail: answer.detail,
-        });
+    if let Some(refusal) = answer.refusal() {
+        return Err(refusal);
     }
     let listed = list.chunks_exact(ENTRY).take(answer.listed as usize);
     let entries = listed.map(Entry::new).collect();

@@ -3,22 +3,22 @@
 
 #![forbid(unsafe_code)]
 
-use hornbeamlet::{with_library, Answer, Entry, Library, Refusal, Settings, Strand};
+use hornbeamlet::{with_library, Answer, Entered, Entry, Library, Refusal, Strand};
 use hornbeamlet::{BOTH, FORWARD, REFUSED, REVERSE};
 use reference::letters::reverse_complement;
 
 const STALE: u32 = 77;
 
 /// The settings of P1 to P4.
-const P1: Settings = settings(2, 2, 8, 0);
+const P1: Entered = settings(2, 2, 8, 0);
 
-const fn settings(k: u32, b: u32, a: u32, m: u32) -> Settings {
+const fn settings(k: u32, b: u32, a: u32, m: u32) -> Entered {
     let strand = FORWARD;
-    Settings { k, b, a, m, strand }
+    Entered { k, b, a, m, strand }
 }
 
-const fn on_strand(strand: u32, settings: Settings) -> Settings {
-    Settings { strand, ..settings }
+const fn on_strand(strand: u32, settings: Entered) -> Entered {
+    Entered { strand, ..settings }
 }
 
 fn answer(refusal: [u64; 3], tallies: [u64; 4]) -> Answer {
@@ -40,7 +40,7 @@ fn refused(number: u64, sequence: u64, detail: u64) -> Answer {
 /// `compare` with rooms of so many stale numbers, and the rooms afterwards.
 fn compared(
     library: &Library,
-    settings: Settings,
+    settings: Entered,
     sequences: [&[u8]; 2],
     rooms: [usize; 2],
 ) -> (Answer, Vec<u32>, Vec<u32>) {
@@ -99,7 +99,7 @@ fn what_goes_on_in_a_row_or_a_column_is_not_listed() {
 
 /// One entry over both strands, for which six numbers of list room are enough
 /// and five are not.
-fn lists_one((forward, tallies): (Settings, [u64; 4]), sequences: [&[u8]; 2], entry: [u32; 6]) {
+fn lists_one((forward, tallies): (Entered, [u64; 4]), sequences: [&[u8]; 2], entry: [u32; 6]) {
     with_library(|library| {
         let run = |list| compared(library, on_strand(BOTH, forward), sequences, [48, list]);
         let done = answer([0; 3], tallies);
@@ -215,7 +215,7 @@ fn the_stopped_sweep_at_every_row_of_p1() {
     stopped_as_p1(on_strand(REVERSE, P1), b"ACCGT");
 }
 
-fn stopped_as_p1(settings: Settings, second: &[u8]) {
+fn stopped_as_p1(settings: Entered, second: &[u8]) {
     with_library(|library| {
         let run_in = |numbers, row| {
             let mut work = vec![STALE; numbers];
@@ -307,7 +307,7 @@ fn a_job_that_needs_more_than_the_first_try_is_listed_as_in_ample_rooms() {
     }
 }
 
-fn listed_as_in_ample_rooms(settings: Settings, sequences: [&[u8]; 2]) -> Answer {
+fn listed_as_in_ample_rooms(settings: Entered, sequences: [&[u8]; 2]) -> Answer {
     with_library(|library| {
         let (answer, _, list) = compared(library, settings, sequences, [80_000, 60_000]);
         let listing = library.list(settings, sequences[0], sequences[1]).unwrap();

@@ -9,7 +9,7 @@
 use hornbeamlet::kinds::{
     DONE, END, ENTRY, FIRST_PIECE, JOB, REFUSED, REVERSE_ENTRY, SECOND_PIECE,
 };
-use hornbeamlet::{with_library, Library, Settings, BOTH, FORWARD, LINE};
+use hornbeamlet::{with_library, Entered, Library, BOTH, FORWARD, LINE};
 use reference::letters::{code_of, reverse_complement};
 use reference::random::Random;
 use std::collections::BTreeSet;
@@ -30,7 +30,7 @@ type Frame = (u32, [u64; 5]);
 /// Settings and two sequences.
 #[derive(Debug)]
 struct Job {
-    settings: Settings,
+    settings: Entered,
     first: Vec<u8>,
     second: Vec<u8>,
 }
@@ -69,7 +69,7 @@ fn chain_lends_just_these_rooms() {
     ];
     with_library(|library| {
         for (b, first, second, due) in cases {
-            let settings = Settings {
+            let settings = Entered {
                 k: 1,
                 b,
                 a: 1_024,
@@ -153,7 +153,7 @@ fn some_job(random: &mut Random) -> Job {
     if random.chance(500) {
         second = reverse_complement(&second);
     }
-    let mut settings = Settings {
+    let mut settings = Entered {
         k: random.one_of(&[1, 1, 2, 4]),
         b: random.one_of(&[1, 1, 2, 8, 1_024]),
         a: random.one_of(&[20, 200, 1_024, 1_024]),
@@ -171,7 +171,7 @@ fn some_job(random: &mut Random) -> Job {
 }
 
 /// One setting outside its range and within its field.
-fn leave_the_table(random: &mut Random, settings: &mut Settings) {
+fn leave_the_table(random: &mut Random, settings: &mut Entered) {
     match random.below(5) {
         0 => settings.k = random.one_of(&[0, 32, 255]),
         1 => settings.b = random.one_of(&[0, 1_025, 65_535]),
@@ -183,7 +183,7 @@ fn leave_the_table(random: &mut Random, settings: &mut Settings) {
 
 /// The lines of an input: the job, pieces of any sizes, the end.
 fn input_lines(library: &Library, random: &mut Random, job: &Job) -> Vec<Vec<u8>> {
-    let Settings { k, b, a, m, strand } = job.settings;
+    let Entered { k, b, a, m, strand } = job.settings;
     let settings = [k, b, a, m, strand].map(u64::from);
     let mut lines = vec![line(library, JOB, &settings)];
     for (kind, sequence) in [(FIRST_PIECE, &job.first), (SECOND_PIECE, &job.second)] {

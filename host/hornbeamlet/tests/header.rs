@@ -1,44 +1,52 @@
-//! The header serves a C program: it compiles without a warning, links and
-//! gives the document's answers. The C compiler is the one Rust links with.
+//! The header serves a C program: it compiles without a warning, links with the
+//! archive and gives the document's answers. So does the example in its head.
 
 #![forbid(unsafe_code)]
 
+mod c;
+mod native;
+
+use c::{compile, include, printed, scratch, ANSWERS, DOCUMENT};
+use native::{folder, top};
+use std::fs;
 use std::path::Path;
 use std::process::Command;
 
-const EXPECTED: &str = "\
-2 3
-1 1
-0 0 0 1 3 2 2 list 1 5 1 5 3 0 0 0 0 0 0 0
-7 0 2 0 0 0 0 list 0 0 0 0 0 0 0 0 0 0 0 0
-0 0 0 2 7 3 7 list 1 5 1 5 3 0 1 5 1 5 4 1
-7 0 3 0 0 0 0 list 0 0 0 0 0 0 0 0 0 0 0 0
-0 0 0 2 3 2 2 work 3 2 2
-0 0 0 3 4 3 5 work 2 2 2
-11140000000100000003000000020000000000000002D3
-0 1 3 2 2 0
-23 0 0 0 0 0
-1
+/// What the example prints.
+const ENTRIES: &str = "\
+1 to 20, 23 to 42, weight 8, forward
+21 to 40, 1 to 20, weight 8, reverse
 ";
 
 #[test]
 fn a_c_program_gets_the_documents_answers() {
-    let crate_folder = Path::new(env!("CARGO_MANIFEST_DIR"));
-    let top = crate_folder.join("../..");
-    let program = Path::new(env!("CARGO_TARGET_TMPDIR")).join("header");
-    let compiled = Command::new("cc")
-        .args(["-std=c99", "-pedantic", "-Wall", "-Wextra", "-Werror"])
-        .arg("-I")
-        .arg(top.join("include"))
-        .arg("-o")
-        .arg(&program)
-        .arg(crate_folder.join("tests/header.c"))
-        .arg(top.join("target/native/libhornbeamlet.a"))
-        .output()
-        .unwrap();
-    let complaints = String::from_utf8_lossy(&compiled.stderr);
-    assert!(compiled.status.success(), "{complaints}");
-    let run = Command::new(&program).output().unwrap();
-    assert!(run.status.success());
-    assert_eq!(String::from_utf8_lossy(&run.stdout), EXPECTED);
+    assert_eq!(answered("header", Path::new(DOCUMENT)), ANSWERS);
+}
+
+#[test]
+fn the_headers_example_is_a_whole_program() {
+    let source = scratch("example.c");
+    fs::write(&source, example()).unwrap();
+    assert_eq!(answered("example", &source), ENTRIES);
+}
+
+/// What a program prints that is linked with the archive.
+fn answered(name: &str, source: &Path) -> String {
+    let archive = folder().join("libhornbeamlet.a");
+    let flags = [include(), archive.display().to_string()];
+    printed(&mut Command::new(compile(name, source, &flags)))
+}
+
+/// The example: of the last part of the head comment, the lines that stand three
+/// blanks in, and the empty ones.
+fn example() -> String {
+    let header = fs::read_to_string(top().join("include/hornbeamlet.h")).unwrap();
+    let (_, part) = header.split_once("\n * EXAMPLE\n").unwrap();
+    let (part, _) = part.split_once("\n */\n").unwrap();
+    let lines = part.lines().map(|line| line.strip_prefix(" *").unwrap());
+    let code = lines.filter_map(|line| match line {
+        "" => Some(line),
+        _ => line.strip_prefix("   "),
+    });
+    code.map(|line| format!("{line}\n")).collect()
 }

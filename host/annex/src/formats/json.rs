@@ -1,62 +1,45 @@
-//! One JSON object: settings, the first sequence, and a line a comparison.
+//! One JSON object: what it is, settings, the first sequence, a line a comparison,
+//! and how all of them came out.
 
-use crate::compare::{Comparison, Report};
-use crate::files::Record;
+use super::facts::{self, Fact, Value};
+use crate::compare::{Comparison, Outcome, Report};
 use crate::words;
-use hornbeamlet::{Answer, Entry, Refusal, Settings};
+use hornbeamlet::{Answer, Entry, Refusal};
 
 /// The whole output.
 pub fn render(report: &Report) -> String {
     let comparisons: Vec<String> = report.comparisons.iter().map(comparison).collect();
     let whole = object(&[
-        ("settings", settings(report.settings)),
-        ("first", sequence(report.first)),
+        ("annex", object_of(facts::annex())),
+        ("settings", object_of(facts::settings(report.settings))),
+        ("first", object_of(facts::sequence(&report.first))),
         ("comparisons", format!("[\n{}\n]", comparisons.join(",\n"))),
+        ("batch", object_of(facts::batch(report))),
     ]);
     whole + "\n"
 }
 
-fn settings(settings: Settings) -> String {
-    object(&[
-        ("k", settings.k.to_string()),
-        ("b", settings.b.to_string()),
-        ("a", settings.a.to_string()),
-        ("m", settings.m.to_string()),
-        ("strand", string(words::strand_setting(settings.strand))),
-    ])
-}
-
-fn sequence(record: &Record) -> String {
-    object(&[
-        ("name", string(&record.name)),
-        ("file", string(&record.file)),
-        ("letters", record.letters.len().to_string()),
-    ])
-}
-
-/// The same members whether done or refused: a refusal has zeros and no
-/// clauses, as its answer has, and the words that tell it.
+/// The same members whatever came of it: a refusal has zeros and no clauses, as
+/// its answer has, and the words that tell it.
 fn comparison(it: &Comparison) -> String {
-    let (answer, entries, words) = match &it.outcome {
-        Ok(listing) => (listing.answer, listing.entries.as_slice(), None),
-        Err(refused) => (answer(refused.refusal), [].as_slice(), Some(&refused.words)),
+    let (answer, refused, why) = match &it.outcome {
+        Outcome::Clauses(listing) => (listing.answer, None, None),
+        Outcome::NoClause(listing, why) => (listing.answer, None, Some(why)),
+        Outcome::Refused(refusal, words) => (answer(*refusal), Some(words), None),
     };
-    let clauses: Vec<String> = (1..).zip(entries).map(clause).collect();
-    object(&[
-        ("second", sequence(it.second)),
+    let words = |words: Option<&String>| words.map_or("null".to_string(), |it| string(it));
+    let clauses: Vec<String> = (1..).zip(super::entries(&it.outcome)).map(clause).collect();
+    let mut members = vec![
+        ("second", object_of(facts::second(it))),
         ("number", answer.number.to_string()),
         ("sequence", answer.sequence.to_string()),
         ("detail", answer.detail.to_string()),
-        (
-            "refusal",
-            words.map_or("null".to_string(), |words| string(words)),
-        ),
-        ("listed", answer.listed.to_string()),
-        ("matches", answer.matches.to_string()),
-        ("widest", answer.widest.to_string()),
-        ("links", answer.links.to_string()),
-        ("clauses", format!("[{}]", clauses.join(","))),
-    ])
+        ("refusal", words(refused)),
+        ("no_clause", words(why)),
+    ];
+    members.extend(facts::tallies(answer).into_iter().map(member));
+    members.push(("clauses", format!("[{}]", clauses.join(","))));
+    object(&members)
 }
 
 fn answer(refusal: Refusal) -> Answer {
@@ -81,6 +64,19 @@ fn clause((number, entry): (usize, &Entry)) -> String {
         ("weight", entry.weight.to_string()),
         ("strand", string(words::strand(entry.strand))),
     ])
+}
+
+/// Names and values as an object.
+pub fn object_of(facts: Vec<Fact>) -> String {
+    let members: Vec<(&str, String)> = facts.into_iter().map(member).collect();
+    object(&members)
+}
+
+fn member((name, value): Fact) -> (&'static str, String) {
+    match value {
+        Value::Number(number) => (name, number.to_string()),
+        Value::Text(text) => (name, string(&text)),
+    }
 }
 
 fn object(members: &[(&str, String)]) -> String {

@@ -3,33 +3,38 @@
 //! is + or -; on either, the format counts the target's places as the target
 //! stands, and so do clauses.
 //!
-//! Its column of matching bases holds the weight, which counts matches of
-//! k-mers; in repeats it can be more than the bases of the block. The mapping
-//! quality is 255, which says that there is none. The tag cm is the field's own
-//! for the seeds on a chain.
+//! Its column of matching bases holds the weight, which counts matches of k-mers,
+//! but no more than the shorter span: in repeats there can be more matches than
+//! bases. The mapping quality is 255, which says that there is none. Tags: cm,
+//! the field's own for the seeds on a chain, is the weight itself; cl is the
+//! clause's number; rc is the number of the second sequence.
 
-use super::clauses;
+use super::{clauses, comments};
 use crate::compare::Report;
 use hornbeamlet::Strand;
 
 /// The whole output.
 pub fn render(report: &Report) -> String {
-    let mut output = String::new();
-    for (comparison, _, entry) in clauses(report) {
-        let block = entry.first_span().max(entry.second_span());
+    let mut output = comments::render(report);
+    let first = report.first.record;
+    for (comparison, number, entry) in clauses(report) {
+        let second = comparison.second.record;
+        let spans = [entry.first_span(), entry.second_span()];
         output += &format!(
-            "{}\t{}\t{}\t{}\t{}\t{}\t{}\t{}\t{}\t{}\t{block}\t255\tcm:i:{}\n",
-            report.first.name,
-            report.first.letters.len(),
+            "{}\t{}\t{}\t{}\t{}\t{}\t{}\t{}\t{}\t{}\t{}\t255\tcm:i:{}\tcl:i:{number}\trc:i:{}\n",
+            first.name,
+            first.letters.len(),
             entry.first_start - 1,
             entry.first_end,
             sign(entry.strand),
-            comparison.second.name,
-            comparison.second.letters.len(),
+            second.name,
+            second.letters.len(),
             entry.second_start - 1,
             entry.second_end,
+            entry.weight.min(spans[0]).min(spans[1]),
+            spans[0].max(spans[1]),
             entry.weight,
-            entry.weight
+            comparison.number
         );
     }
     output

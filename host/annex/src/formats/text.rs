@@ -1,70 +1,73 @@
-//! For the eye: settings, tallies and the numbered clauses, in columns.
+//! For the eye: what was compared, settings, tallies and the numbered clauses, in
+//! columns.
 
-use crate::compare::{Comparison, Refused, Report};
-use crate::files::Record;
-use crate::words::{self, grouped};
-use hornbeamlet::{Answer, Entry, Listing, Settings, FORWARD};
+use crate::compare::{Comparison, Outcome, Report, Sequence, Tally};
+use crate::words;
+use asked::numbers::{self, grouped};
+use hornbeamlet::{Answer, Entry, Settings};
 
 /// No place has more than five digits.
 const HEADINGS: &str = "  clause  first sequence  bases  second sequence  bases  weight  strand\n";
 
-/// The whole output; nothing where nothing was compared, since the refusals
-/// are told on standard error.
+/// The whole output; nothing where one refusal is all there is, since that is told
+/// on standard error.
 pub fn render(report: &Report) -> String {
-    if report.comparisons.iter().all(|it| it.outcome.is_err()) {
+    if report.comparisons.len() == 1 && report.all_refused() {
         return String::new();
     }
     let shown = report.comparisons.iter().map(|it| comparison(report, it));
-    shown.collect::<Vec<String>>().join("\n\n")
+    let shown: Vec<String> = shown.collect();
+    let version = words::version();
+    let first = sequence("First", &report.first);
+    let (apart, summary) = match report.is_batch() {
+        true => ("\n\n", summary(report)),
+        false => ("", String::new()),
+    };
+    let shown = shown.join("\n\n");
+    format!("{version}\n\n{first}{apart}{shown}{summary}")
+}
+
+/// Who is who, and the SHA-256 of its letters.
+fn sequence(which: &str, it: &Sequence) -> String {
+    let letters = numbers::letters(it.record.letters.len());
+    let (name, file, digest) = (&it.record.name, &it.record.file, &it.digest);
+    format!("{which}: {name}, {letters}, in {file}\n  SHA-256 {digest}\n")
 }
 
 fn comparison(report: &Report, it: &Comparison) -> String {
-    let (first, second) = (named(report.first), named(it.second));
-    let outcome = match &it.outcome {
-        Ok(listing) => done(report.settings, listing),
-        Err(refused) => refusal(refused),
+    let which = match report.is_batch() {
+        true => format!("Record {}", it.number),
+        false => "Second".to_string(),
     };
-    format!("{first} against {second}\n\n{outcome}")
-}
-
-fn named(record: &Record) -> String {
-    let letters = grouped(record.letters.len() as u64);
-    format!("{} ({letters} letters)", record.name)
-}
-
-fn refusal(refused: &Refused) -> String {
-    let refusal = refused.refusal;
-    format!(
-        "  refused, number {}, sequence {}, detail {}\n",
-        refusal.number, refusal.sequence, refusal.detail
-    )
-}
-
-fn done(settings: Settings, listing: &Listing) -> String {
-    let head = settings_and_tallies(settings, listing.answer);
-    let searched = searched(settings);
-    let clauses = match listing.answer {
-        Answer { matches: 0, .. } => {
-            format!("  No clause: the two have no k-mer in common that is used, {searched}.\n")
-        }
-        Answer { listed: 0, .. } => {
-            let least = grouped(u64::from(settings.m));
-            format!("  No clause: none would span {least} bases in both sequences, {searched}.\n")
-        }
-        _ => {
+    let second = sequence(&which, &it.second);
+    let (head, end) = match &it.outcome {
+        Outcome::Clauses(listing) => {
             let numbered = (1..).zip(&listing.entries);
-            HEADINGS.to_string() + &numbered.map(clause).collect::<String>()
+            let clauses: String = numbered.map(clause).collect();
+            (Some(listing.answer), HEADINGS.to_string() + &clauses)
         }
+        Outcome::NoClause(listing, why) => (Some(listing.answer), format!("  No clause: {why}.\n")),
+        Outcome::Refused(_, words) => (None, format!("  Not compared: {words}.\n")),
     };
-    format!("{head}\n{clauses}")
+    let head = head.map(|answer| settings_and_tallies(report.settings, answer) + "\n");
+    format!("{second}\n{}{end}", head.unwrap_or_default())
 }
 
-/// Where nothing was found, so that no one takes the one strand for both.
-fn searched(settings: Settings) -> &'static str {
-    match settings.strand {
-        FORWARD => "on the forward strand",
-        _ => "on either strand",
-    }
+/// A line on how all records came out.
+fn summary(report: &Report) -> String {
+    let Tally {
+        with,
+        without,
+        refused,
+        clauses,
+        ..
+    } = report.tally();
+    let numbers = [report.seconds, clauses, with, without, refused];
+    let [records, clauses, with, without, refused] = numbers.map(|it| grouped(it as u64));
+    format!(
+        "\n\n{records} records: {with} with clauses, {clauses} in all; \
+         {without} without; {refused} refused.\n"
+    )
 }
 
 /// The settings, and the tallies beside them.

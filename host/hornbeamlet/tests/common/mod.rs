@@ -38,9 +38,9 @@ impl Calls for Proved<'_> {
     }
 }
 
-fn to_library(settings: Settings) -> hornbeamlet::Settings {
+fn to_library(settings: Settings) -> hornbeamlet::Entered {
     let Settings { k, b, a, m, strand } = settings;
-    hornbeamlet::Settings { k, b, a, m, strand }
+    hornbeamlet::Entered { k, b, a, m, strand }
 }
 
 fn from_library(answer: hornbeamlet::Answer) -> Answer {

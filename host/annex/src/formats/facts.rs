@@ -1,0 +1,89 @@
+//! What every listing for programs says of itself: names and values, the same in
+//! JSON and in comments.
+
+use crate::compare::{Comparison, Report, Sequence, Tally};
+use crate::words;
+use hornbeamlet::{Answer, Settings, KIT, VERSION};
+
+/// A named value.
+pub type Fact = (&'static str, Value);
+
+/// A value.
+pub enum Value {
+    /// A number.
+    Number(u64),
+    /// A text.
+    Text(String),
+}
+
+fn number(name: &'static str, value: impl TryInto<u64>) -> Fact {
+    // No count here is anywhere near 64 bits.
+    (name, Value::Number(value.try_into().unwrap_or(u64::MAX)))
+}
+
+fn text(name: &'static str, value: &str) -> Fact {
+    (name, Value::Text(value.to_string()))
+}
+
+/// Which program it is, and what the library was proved with.
+pub fn annex() -> Vec<Fact> {
+    vec![text("version", VERSION), text("kit", KIT)]
+}
+
+/// The settings.
+pub fn settings(settings: Settings) -> Vec<Fact> {
+    let Settings { k, b, a, m, strand } = settings;
+    vec![
+        number("k", k),
+        number("b", b),
+        number("a", a),
+        number("m", m),
+        text("strand", words::strand_setting(strand)),
+    ]
+}
+
+/// A sequence and where it was read.
+pub fn sequence(it: &Sequence) -> Vec<Fact> {
+    vec![
+        text("name", &it.record.name),
+        text("file", &it.record.file),
+        number("letters", it.record.letters.len()),
+        text("sha256", &it.digest),
+    ]
+}
+
+/// A second sequence, with its number before all else.
+pub fn second(it: &Comparison) -> Vec<Fact> {
+    let mut facts = vec![number("record", it.number)];
+    facts.extend(sequence(&it.second));
+    facts
+}
+
+/// The tallies of an answer.
+pub fn tallies(answer: Answer) -> Vec<Fact> {
+    vec![
+        number("listed", answer.listed),
+        number("matches", answer.matches),
+        number("widest", answer.widest),
+        number("links", answer.links),
+    ]
+}
+
+/// How all second sequences came out.
+pub fn batch(report: &Report) -> Vec<Fact> {
+    let Tally {
+        with,
+        without,
+        refused,
+        unseen,
+        clauses,
+    } = report.tally();
+    vec![
+        number("records", report.seconds),
+        number("with_clauses", with),
+        number("without", without),
+        number("refused", refused),
+        number("not_compared", unseen),
+        number("clauses", clauses),
+    ]
+}

@@ -1,0 +1,16 @@
+//! The command as a user types it: whole outputs, every complaint and every
+//! exit status.
+
+#![forbid(unsafe_code)]
+
+mod batches;
+mod faults;
+mod formats;
+mod json;
+mod letters;
+mod paf;
+mod provenance;
+mod refusals;
+mod strands;
+mod streams;
+mod support;

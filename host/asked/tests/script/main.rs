@@ -1,0 +1,254 @@
+//! The script `annex`: what it says and builds in a folder that was just cloned,
+//! and later. The proof and the compiler are stand-ins that leave what the script
+//! looks for; what answers before the proof is the real program.
+
+#![forbid(unsafe_code)]
+
+mod clone;
+
+use clone::{Clone, PROVING};
+use std::fs;
+use std::os::unix::fs::symlink;
+use std::process::{Command, Stdio};
+
+const HELP: &str = include_str!("../../src/help.txt");
+const RAN: &str = "compared: a.fa b.fa\n";
+
+#[test]
+fn help_needs_no_build_at_all() {
+    let clone = Clone::new("help");
+    for word in ["--help", "-h"] {
+        let run = clone.run(word);
+        assert_eq!(
+            (run.status, run.output.as_str(), run.complaints.as_str()),
+            (0, HELP, "")
+        );
+    }
+    assert_eq!(clone.log(), "");
+    // Beside other words it is the command line's to say.
+    assert_eq!(clone.run("a.fa --help").output, HELP);
+    assert_eq!(clone.log(), "cargo asked\n");
+}
+
+#[test]
+fn what_needs_no_library_is_told_before_the_proof() {
+    let clone = Clone::new("at-once");
+    let version = clone.run("--version");
+    assert_eq!(version.status, 0);
+    let not_yet = concat!(
+        "annex ",
+        env!("CARGO_PKG_VERSION"),
+        ", not proved in this folder yet\n"
+    );
+    assert_eq!(version.output, not_yet);
+    for (line, told) in [
+        ("a.fa", "annex: two files at least are needed"),
+        ("--fast a.fa b.fa", "annex: there is no option --fast"),
+        (
+            "-k -1 a.fa b.fa",
+            "annex: -k needs a whole number from 1 to 31",
+        ),
+        (
+            "a.fa missing.fa",
+            "annex: missing.fa: there is no such file\n",
+        ),
+        ("many.fa a.fa", "annex: many.fa: this holds 2 records"),
+    ] {
+        let run = clone.run(line);
+        assert_eq!((run.status, run.output.as_str()), (2, ""), "{line}");
+        assert!(run.complaints.starts_with(told), "{}", run.complaints);
+    }
+    assert!(!clone.log().contains("proof"));
+}
+
+/// Elsewhere than on a terminal it is one sentence, and then nothing more.
+#[test]
+fn the_first_run_says_that_it_proves_and_the_next_does_not() {
+    let clone = Clone::new("first");
+    let run = clone.run("a.fa b.fa");
+    assert_eq!(
+        (run.status, run.output.as_str(), run.complaints.as_str()),
+        (0, RAN, PROVING)
+    );
+    assert_eq!(clone.log(), "cargo asked\nproof\ncargo annex\n");
+    let run = clone.run("a.fa b.fa");
+    assert_eq!(
+        (run.status, run.output.as_str(), run.complaints.as_str()),
+        (0, RAN, "")
+    );
+    assert_eq!(clone.log(), "cargo asked\nproof\ncargo annex\n");
+}
+
+#[test]
+fn what_has_changed_is_built_again() {
+    let clone = Clone::new("changed");
+    clone.run("a.fa b.fa");
+    clone.touch("crates/lines/src/lib.rt");
+    assert_eq!(clone.run("a.fa b.fa").complaints, PROVING);
+    clone.touch("host/asked/src/help.txt");
+    assert_eq!(clone.run("a.fa b.fa").complaints, "");
+    let log = clone.log();
+    assert_eq!(log.matches("proof\n").count(), 2);
+    assert!(log.ends_with("proof\ncargo annex\ncargo annex\n"));
+}
+
+/// What the check removes is not what the script stands on.
+#[test]
+fn nothing_is_built_again_where_target_is_removed() {
+    let clone = Clone::new("removed");
+    fs::create_dir_all(clone.top.join("target/rlib")).unwrap();
+    clone.run("a.fa b.fa");
+    fs::remove_dir_all(clone.top.join("target")).unwrap();
+    assert_eq!(clone.run("a.fa b.fa").complaints, "");
+    assert_eq!(clone.log().matches("proof\n").count(), 1);
+}
+
+#[test]
+fn links_lead_to_the_script() {
+    let clone = Clone::new("links");
+    let links = clone.top.join("links");
+    fs::create_dir(&links).unwrap();
+    symlink("../annex", links.join("relative")).unwrap();
+    symlink(clone.top.join("annex"), links.join("absolute")).unwrap();
+    symlink("relative", links.join("twice")).unwrap();
+    symlink(&links, clone.top.join("folder")).unwrap();
+    for link in [
+        "links/relative",
+        "links/absolute",
+        "links/twice",
+        "folder/twice",
+    ] {
+        let mut command = clone.command("a.fa b.fa", &clone.top.join(link));
+        let output = command.output().unwrap();
+        assert_eq!(String::from_utf8(output.stdout).unwrap(), RAN, "{link}");
+    }
+    // As it is found on the PATH, from another folder.
+    let mut command = Command::new("sh");
+    command.current_dir("/").args(["-c", "twice a.fa b.fa"]);
+    command.env("PATH", format!("{}:{}", links.display(), clone.path()));
+    assert_eq!(
+        String::from_utf8(command.output().unwrap().stdout).unwrap(),
+        RAN
+    );
+}
+
+#[test]
+fn two_first_runs_prove_once() {
+    if Command::new("flock").arg("--version").output().is_err() {
+        println!("flock is not there, so this is not tried");
+        return;
+    }
+    let clone = Clone::new("two");
+    fs::write(clone.top.join("slow"), "").unwrap();
+    let start = || {
+        let mut command = clone.command("a.fa b.fa", &clone.top.join("annex"));
+        command.stdout(Stdio::piped()).stderr(Stdio::piped());
+        command.spawn().unwrap()
+    };
+    let runs = [start(), start(), start()].map(|run| run.wait_with_output().unwrap());
+    let told = runs
+        .each_ref()
+        .map(|run| String::from_utf8_lossy(&run.stderr));
+    let waiting = "annex: another run is building what this one needs; waiting for it\n";
+    assert_eq!(
+        told.iter().filter(|told| *told == PROVING).count(),
+        1,
+        "{told:?}"
+    );
+    assert_eq!(
+        told.iter().filter(|told| *told == waiting).count(),
+        2,
+        "{told:?}"
+    );
+    for run in runs {
+        assert_eq!(String::from_utf8(run.stdout).unwrap(), RAN);
+    }
+    assert_eq!(clone.log().matches("proof\n").count(), 1);
+}
+
+#[test]
+fn a_proof_that_fails_is_shown_and_nothing_is_compared() {
+    let clone = Clone::new("fails");
+    fs::write(clone.top.join("broken"), "").unwrap();
+    let run = clone.run("a.fa b.fa");
+    assert_eq!((run.status, run.output.as_str()), (2, ""));
+    let told = "rt: lines proved (0 s)\nrt: rules refused\nannex: the library could not be built\n";
+    assert_eq!(run.complaints, PROVING.to_string() + told);
+    fs::remove_file(clone.top.join("broken")).unwrap();
+    assert_eq!(clone.run("a.fa b.fa").output, RAN);
+}
+
+#[test]
+fn standard_input_is_left_for_the_comparison() {
+    let clone = Clone::new("input");
+    let mut command = clone.command("- b.fa", &clone.top.join("annex"));
+    let input = fs::File::open(clone.top.join("a.fa")).unwrap();
+    let output = command.stdin(input).output().unwrap();
+    let output = String::from_utf8(output.stdout).unwrap();
+    assert_eq!(output, "compared: - b.fa\n>a\nACGT\n");
+}
+
+#[test]
+fn a_closed_standard_output_is_a_fault() {
+    let clone = Clone::new("closed");
+    for line in ["--help", "a.fa b.fa"] {
+        let script = format!("'{}' {line} >&-", clone.top.join("annex").display());
+        let mut command = clone.command("", "sh".as_ref());
+        let output = command.args(["-c", &script]).output().unwrap();
+        assert_eq!(output.status.code(), Some(2));
+        let told = String::from_utf8(output.stderr).unwrap();
+        assert_eq!(
+            told,
+            "annex: standard output is closed, so that nothing can be listed\n"
+        );
+    }
+    // What is thrown away is not closed.
+    let script = format!(
+        "'{}' a.fa b.fa >/dev/null",
+        clone.top.join("annex").display()
+    );
+    let mut command = clone.command("", "sh".as_ref());
+    assert!(command.args(["-c", &script]).status().unwrap().success());
+}
+
+/// The command `script` gives a terminal, where it is there.
+#[test]
+fn a_terminal_shows_crate_by_crate() {
+    let clone = Clone::new("terminal");
+    let line = format!("'{}' a.fa b.fa", clone.top.join("annex").display());
+    let mut command = clone.command("", "script".as_ref());
+    let Ok(output) = command.args(["-qec", &line, "/dev/null"]).output() else {
+        println!("script is not there, so this is not tried");
+        return;
+    };
+    let shown = String::from_utf8(output.stdout).unwrap();
+    assert!(shown.contains("\rannex: crate 1 of 3: lines"), "{shown}");
+    assert!(shown.contains("\rannex: crate 2 of 3: rules"), "{shown}");
+    assert!(shown.ends_with("\x1B[Kcompared: a.fa b.fa\r\n"), "{shown}");
+}
+
+#[test]
+fn a_command_that_is_missing_is_named() {
+    let clone = Clone::new("missing");
+    for missing in ["cargo", "rt"] {
+        fs::rename(clone.top.join("bin").join(missing), clone.top.join("away")).unwrap();
+        let mut command = clone.command("a.fa b.fa", &clone.top.join("annex"));
+        command.env(
+            "PATH",
+            format!("{}:/usr/bin:/bin", clone.top.join("bin").display()),
+        );
+        let elsewhere = ["/usr/bin", "/bin"].map(|folder| format!("{folder}/{missing}"));
+        if elsewhere.iter().any(|path| fs::metadata(path).is_ok()) {
+            println!("{missing} is among the system's own, so this is not tried");
+        } else {
+            let output = command.output().unwrap();
+            let told = String::from_utf8(output.stderr).unwrap();
+            assert!(
+                told.starts_with(&format!("annex: the command {missing}, which ")),
+                "{told}"
+            );
+            assert_eq!(output.status.code(), Some(2));
+        }
+        fs::rename(clone.top.join("away"), clone.top.join("bin").join(missing)).unwrap();
+    }
+}
