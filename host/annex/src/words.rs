@@ -91,9 +91,14 @@ impl Named<'_> {
 
     fn too_long(&self) -> String {
         let letters = numbers::letters(self.record.letters.len());
-        let Record { name, file, .. } = self.record;
+        let Record {
+            name, file, begins, ..
+        } = self.record;
         let which = &self.which;
-        format!("{which}, {name} in {file}, has {letters}; at most 16,384 are accepted")
+        format!(
+            "{which}, {name}, on line {begins} of {file}, has {letters}; \
+             at most 16,384 are accepted, so compare it in parts"
+        )
     }
 
     fn bad_letter(&self, place: u64) -> String {
@@ -144,7 +149,10 @@ fn letter_at(letters: &[u8], place: usize) -> (String, &'static str) {
     let hint = match character {
         Some('u' | 'U') => "neither u nor U is accepted; write T for each, a capital",
         Some('a'..='z') => "lower case is not accepted, capitals are",
-        _ => "the letters are ABCDGHKMNRSTVWY",
+        Some('-' | '.') => "a gap is no letter; take it out",
+        Some('>') => "a name begins a line; put a line end before it",
+        Some('A'..='Z') => "the letters of nucleotides are ABCDGHKMNRSTVWY; is this a protein?",
+        _ => "the letters are ABCDGHKMNRSTVWY; take out what is none",
     };
     (letter, hint)
 }
@@ -211,11 +219,14 @@ mod tests {
     }
 
     #[test]
-    fn u_gets_one_advice_in_either_case() {
+    fn every_kind_of_letter_gets_an_advice() {
         let advice = |letters| letter_at(letters, 1).1;
         assert_eq!(advice(b"u"), advice(b"U"));
         assert!(advice(b"u").contains("write T"));
         assert_eq!(advice(b"a"), "lower case is not accepted, capitals are");
+        assert!(advice(b"-").contains("gap") && advice(b"E").contains("protein"));
+        assert!(advice(b">").contains("line end"));
+        assert!(advice(b"7").contains("take out") && advice(b"\xFF").contains("take out"));
     }
 
     #[test]

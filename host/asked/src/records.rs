@@ -74,7 +74,9 @@ fn parse(bytes: &[u8], source: &Source) -> Result<Vec<Record>, String> {
         reading.take(text.trim_ascii(), line)?;
     }
     if reading.records.is_empty() {
-        return Err("the file is empty: it has neither a name line nor letters".to_string());
+        let empty =
+            "the file is empty, without a name line and letters; was it written to its end?";
+        return Err(empty.to_string());
     }
     Ok(reading.records)
 }

@@ -93,7 +93,7 @@ fn unreadable(error: &Error) -> String {
     match error.kind() {
         ErrorKind::NotFound => "there is no such file".to_string(),
         ErrorKind::PermissionDenied => "the file may not be read".to_string(),
-        ErrorKind::IsADirectory => "this is a directory, not a file".to_string(),
+        ErrorKind::IsADirectory => "this is a directory; name the files in it".to_string(),
         _ => format!("the file cannot be read: {error}"),
     }
 }

@@ -69,8 +69,10 @@ fn one_dash_is_standard_input() {
         .contains("\nFirst: standard-input, 5 letters, in standard input\n"));
     assert_eq!(listing(&first.output), listing(&named));
     let empty = folder.fed("first.fa -", b"");
-    let told = "annex: standard input: the file is empty: it has neither a name line nor letters\n";
-    assert_eq!((empty.status, empty.complaints.as_str()), (2, told));
+    assert!(empty
+        .complaints
+        .starts_with("annex: standard input: the file is empty, "));
+    assert_eq!(empty.status, 2);
 }
 
 /// A batch whose output goes into a file has all there: who was refused and why,
@@ -79,7 +81,7 @@ fn one_dash_is_standard_input() {
 fn a_redirected_batch_tells_refusals_in_words() {
     let folder = files("redirected");
     let words = "refused, number 6: record 2, bad, has the letter '-' at place 4, \
-                 on line 2 of bad.fa; the letters are ABCDGHKMNRSTVWY";
+                 on line 2 of bad.fa; a gap is no letter; take it out";
     let text = folder.run(&format!("{P1} first.fa one.fa bad.fa"));
     assert!(text
         .output

@@ -79,11 +79,14 @@ fn every_fault_of_a_file() {
         ],
     );
     fs::create_dir(folder.0.join("folder")).unwrap();
-    let empty = "the file is empty: it has neither a name line nor letters";
+    let empty = "the file is empty, without a name line and letters; was it written to its end?";
     for (line, words) in [
         ("missing.fa a.txt", "missing.fa: there is no such file"),
         ("a.txt missing.fa", "missing.fa: there is no such file"),
-        ("a.txt folder", "folder: this is a directory, not a file"),
+        (
+            "a.txt folder",
+            "folder: this is a directory; name the files in it",
+        ),
         ("empty.fa a.txt", &format!("empty.fa: {empty}")),
         ("a.txt blank.fa", &format!("blank.fa: {empty}")),
         (

@@ -56,8 +56,9 @@ fn refusals_of_settings() {
 fn refusals_of_sequences() {
     let folder = sequences("sequences");
     let u = "neither u nor U is accepted; write T for each, a capital";
-    let letters = "the letters are ABCDGHKMNRSTVWY";
-    let long = "x in long.fa, has 16,385 letters; at most 16,384 are accepted";
+    let letters = "the letters are ABCDGHKMNRSTVWY; take out what is none";
+    let long = "x, on line 1 of long.fa, has 16,385 letters; at most 16,384 are accepted, \
+                so compare it in parts";
     for (line, words) in [
         ("long.fa rna.txt", format!("5: the first sequence, {long}")),
         ("rna.txt long.fa", format!("5: the second sequence, {long}")),
@@ -83,10 +84,9 @@ fn refusals_of_sequences() {
         ),
         (
             "a.txt gap.txt",
-            format!(
-                "6: the second sequence, gap.txt, has the letter '-' at place 6, on line 2 of \
-                 gap.txt; {letters}"
-            ),
+            "6: the second sequence, gap.txt, has the letter '-' at place 6, on line 2 of \
+             gap.txt; a gap is no letter; take it out"
+                .to_string(),
         ),
         (
             "blank.txt a.txt",

@@ -80,6 +80,25 @@ fn the_forward_clauses_come_first_and_are_those_of_a_forward_run() {
     }
 }
 
+/// Of two that end at the same letter of the first sequence, the one that begins
+/// later in the second as it stands ends earlier in the second turned round.
+#[test]
+fn reverse_clauses_are_ordered_as_in_the_turned_sequence() {
+    let turned = "GCCTGTAATC";
+    let second = [turned, turned].join(&"N".repeat(30));
+    let files: [(&str, &[u8]); 2] = [
+        ("first.fa", b"GATTACAGGC"),
+        ("second.fa", second.as_bytes()),
+    ];
+    let tsv =
+        Folder::new("reverse-order", &files).done(&format!("{STRANDS} --tsv first.fa second.fa"));
+    let places: Vec<[&str; 3]> = rows(&tsv)
+        .iter()
+        .map(|row| [row[4], row[5], row[8]])
+        .collect();
+    assert_eq!(places, [["10", "41", "reverse"], ["10", "1", "reverse"]]);
+}
+
 #[test]
 fn a_stretch_that_is_its_own_reverse_complement_is_listed_on_both_strands() {
     let folder = strands("palindrome");

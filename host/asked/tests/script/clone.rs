@@ -17,7 +17,7 @@ top=$(dirname \"$0\")/..
 echo proof >>\"$top/log\"
 echo 'rt: lines proved (0 s)'
 if [ -e \"$top/broken\" ]; then echo 'rt: rules refused'; exit 1; fi
-if [ -e \"$top/slow\" ]; then sleep 1; fi
+while [ -e \"$top/slow\" ]; do sleep 0.1; done
 echo 'rt: rules proved (0 s)'
 echo 'rt: ok, 3 crates proved'
 echo 'rt: lines proved (unchanged since it was last proved)'

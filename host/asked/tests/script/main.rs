@@ -10,6 +10,8 @@ use clone::{Clone, PROVING};
 use std::fs;
 use std::os::unix::fs::symlink;
 use std::process::{Command, Stdio};
+use std::thread::sleep;
+use std::time::{Duration, Instant};
 
 const HELP: &str = include_str!("../../src/help.txt");
 const RAN: &str = "compared: a.fa b.fa\n";
@@ -133,36 +135,33 @@ fn links_lead_to_the_script() {
 }
 
 #[test]
-fn two_first_runs_prove_once() {
+fn of_several_first_runs_one_proves() {
     if Command::new("flock").arg("--version").output().is_err() {
         println!("flock is not there, so this is not tried");
         return;
     }
-    let clone = Clone::new("two");
+    let clone = Clone::new("several");
     fs::write(clone.top.join("slow"), "").unwrap();
-    let start = || {
+    let runs = ["1", "2", "3"].map(|run| {
+        let told = fs::File::create(clone.top.join(run)).unwrap();
         let mut command = clone.command("a.fa b.fa", &clone.top.join("annex"));
-        command.stdout(Stdio::piped()).stderr(Stdio::piped());
+        command.stdout(Stdio::piped()).stderr(told);
         command.spawn().unwrap()
-    };
-    let runs = [start(), start(), start()].map(|run| run.wait_with_output().unwrap());
-    let told = runs
-        .each_ref()
-        .map(|run| String::from_utf8_lossy(&run.stderr));
+    });
+    let told = || ["1", "2", "3"].map(|run| fs::read_to_string(clone.top.join(run)).unwrap());
     let waiting = "annex: another run is building what this one needs; waiting for it\n";
-    assert_eq!(
-        told.iter().filter(|told| *told == PROVING).count(),
-        1,
-        "{told:?}"
-    );
-    assert_eq!(
-        told.iter().filter(|told| *told == waiting).count(),
-        2,
-        "{told:?}"
-    );
-    for run in runs {
-        assert_eq!(String::from_utf8(run.stdout).unwrap(), RAN);
+    let count = |sentence: &str| told().iter().filter(|told| *told == sentence).count();
+    // The proof ends only once the others wait for it.
+    let begun = Instant::now();
+    while count(waiting) < 2 && begun.elapsed() < Duration::from_secs(60) {
+        sleep(Duration::from_millis(10));
     }
+    fs::remove_file(clone.top.join("slow")).unwrap();
+    for run in runs {
+        let output = run.wait_with_output().unwrap();
+        assert_eq!(String::from_utf8(output.stdout).unwrap(), RAN);
+    }
+    assert_eq!((count(PROVING), count(waiting)), (1, 2), "{:?}", told());
     assert_eq!(clone.log().matches("proof\n").count(), 1);
 }
 
@@ -214,13 +213,16 @@ fn a_closed_standard_output_is_a_fault() {
 /// The command `script` gives a terminal, where it is there.
 #[test]
 fn a_terminal_shows_crate_by_crate() {
+    let version = Command::new("script").arg("--version").output();
+    let usual = version.is_ok_and(|it| String::from_utf8_lossy(&it.stdout).contains("util-linux"));
+    if !usual {
+        println!("script is not there, so this is not tried");
+        return;
+    }
     let clone = Clone::new("terminal");
     let line = format!("'{}' a.fa b.fa", clone.top.join("annex").display());
     let mut command = clone.command("", "script".as_ref());
-    let Ok(output) = command.args(["-qec", &line, "/dev/null"]).output() else {
-        println!("script is not there, so this is not tried");
-        return;
-    };
+    let output = command.args(["-qec", &line, "/dev/null"]).output().unwrap();
     let shown = String::from_utf8(output.stdout).unwrap();
     assert!(shown.contains("\rannex: crate 1 of 3: lines"), "{shown}");
     assert!(shown.contains("\rannex: crate 2 of 3: rules"), "{shown}");
