@@ -3,7 +3,7 @@
 use asked::numbers::{self, grouped};
 use asked::records::Record;
 use asked::Sequences;
-use hornbeamlet::{Answer, Refusal, Settings, Strand, Strands, A, B, K, KIT, M, VERSION};
+use hornbeamlet::{Answer, Refusal, Settings, Strands, A, B, K, KIT, M, VERSION};
 use std::ops::RangeInclusive;
 
 /// The command's version, and the kit that the library was proved with.
@@ -176,22 +176,6 @@ fn shown(character: char) -> String {
 fn first_character(text: &[u8]) -> Option<char> {
     let valid = text[..text.len().min(4)].utf8_chunks().next()?.valid();
     valid.chars().next()
-}
-
-/// The strand setting as the option --strand names it.
-pub fn strand_setting(strand: Strands) -> &'static str {
-    match strand {
-        Strands::Forward => "forward",
-        Strands::Both => "both",
-    }
-}
-
-/// The strand of a clause.
-pub fn strand(strand: Strand) -> &'static str {
-    match strand {
-        Strand::Forward => "forward",
-        Strand::Reverse => "reverse",
-    }
 }
 
 #[cfg(test)]

@@ -175,14 +175,10 @@ fn unknown(option: &str) -> String {
 }
 
 fn strand(value: Option<&str>) -> Result<Strands, String> {
-    match value.ok_or("--strand needs forward or both after it")? {
-        "forward" => Ok(Strands::Forward),
-        "both" => Ok(Strands::Both),
-        other => Err(format!(
-            "--strand needs forward or both, not {}",
-            quoted(other)
-        )),
-    }
+    let value = value.ok_or("--strand needs forward or both after it")?;
+    let mut strands = [Strands::Forward, Strands::Both].into_iter();
+    let named = strands.find(|strand| strand.to_string() == value);
+    named.ok_or_else(|| format!("--strand needs forward or both, not {}", quoted(value)))
 }
 
 /// Any number that can be handed on: whether it is accepted is for the library to

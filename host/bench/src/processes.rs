@@ -5,7 +5,7 @@ use crate::calls::Call;
 use crate::jobs::Job;
 use crate::table::{self, duration, times};
 use crate::timing::{medians_of_rounds, ratio, time};
-use hornbeamlet::{Settings, Strands};
+use hornbeamlet::Settings;
 use std::env;
 use std::fs;
 use std::path::{Path, PathBuf};
@@ -109,10 +109,6 @@ impl Programs {
 /// where none are given.
 fn setting_words(job: &Job) -> String {
     let Settings { k, b, a, m, strand } = job.settings;
-    let strand = match strand {
-        Strands::Forward => "forward",
-        Strands::Both => "both",
-    };
     format!("-k {k} -b {b} -a {a} -m {m} --strand {strand}")
 }
 

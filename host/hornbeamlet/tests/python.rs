@@ -5,7 +5,7 @@
 
 mod native;
 
-use hornbeamlet::{with_library, Entry, Listing, Refusal, Settings, Strand};
+use hornbeamlet::{with_library, Entry, Listing, Refusal, Settings};
 use native::{folder, top};
 use std::fs;
 use std::path::{Path, PathBuf};
@@ -108,10 +108,7 @@ fn fields(entry: &Entry) -> [String; 6] {
         entry.second_start.to_string(),
         entry.second_end.to_string(),
         entry.weight.to_string(),
-        match entry.strand {
-            Strand::Forward => "forward".to_owned(),
-            Strand::Reverse => "reverse".to_owned(),
-        },
+        entry.strand.to_string(),
     ]
 }
 

@@ -4,6 +4,7 @@
 
 #![forbid(unsafe_code)]
 
+use std::fmt::{self, Display, Formatter};
 use std::ops::RangeInclusive;
 
 /// The k-mer lengths that are accepted.
@@ -41,6 +42,24 @@ pub enum Strand {
     Forward,
     /// Turned round: read from its end, each letter as its complement.
     Reverse,
+}
+
+impl Display for Strands {
+    fn fmt(&self, to: &mut Formatter) -> fmt::Result {
+        to.pad(match self {
+            Strands::Forward => "forward",
+            Strands::Both => "both",
+        })
+    }
+}
+
+impl Display for Strand {
+    fn fmt(&self, to: &mut Formatter) -> fmt::Result {
+        to.pad(match self {
+            Strand::Forward => "forward",
+            Strand::Reverse => "reverse",
+        })
+    }
 }
 
 /// The settings of a job, by default those of the command `annex`.

@@ -2,7 +2,6 @@
 //! JSON and in comments.
 
 use crate::compare::{Comparison, Report, Sequence, Tally};
-use crate::words;
 use hornbeamlet::{Answer, Settings, KIT, VERSION};
 
 /// A named value.
@@ -38,7 +37,7 @@ pub fn settings(settings: Settings) -> Vec<Fact> {
         number("b", b),
         number("a", a),
         number("m", m),
-        text("strand", words::strand_setting(strand)),
+        text("strand", &strand.to_string()),
     ]
 }
 

@@ -3,7 +3,6 @@
 
 use super::facts::{self, Fact, Value};
 use crate::compare::{Comparison, Outcome, Report};
-use crate::words;
 use hornbeamlet::{Answer, Entry, Refusal};
 
 /// The whole output.
@@ -62,7 +61,7 @@ fn clause((number, entry): (usize, &Entry)) -> String {
         ("second_start", entry.second_start.to_string()),
         ("second_end", entry.second_end.to_string()),
         ("weight", entry.weight.to_string()),
-        ("strand", string(words::strand(entry.strand))),
+        ("strand", string(&entry.strand.to_string())),
     ])
 }
 

@@ -74,7 +74,7 @@ fn summary(report: &Report) -> String {
 fn settings_and_tallies(settings: Settings, answer: Answer) -> String {
     let Settings { k, b, a, m, strand } = settings;
     let [k, b, a, m] = [k, b, a, m].map(|number| grouped(u64::from(number)));
-    let strand = words::strand_setting(strand).to_string();
+    let strand = strand.to_string();
     let [k, b, a, m, strand] = aligned([k, b, a, m, strand]);
     let tallies = [answer.listed, answer.matches, answer.widest, answer.links];
     let [listed, matches, widest, links] = aligned(tallies.map(grouped));
@@ -104,6 +104,6 @@ fn clause((number, it): (usize, &Entry)) -> String {
         it.second_end,
         it.second_span(),
         it.weight,
-        words::strand(it.strand)
+        it.strand
     )
 }

@@ -3,7 +3,6 @@
 
 use super::{clauses, comments};
 use crate::compare::Report;
-use crate::words;
 
 const HEADINGS: &str =
     "first\tsecond\tclause\tfirst_start\tfirst_end\tsecond_start\tsecond_end\tweight\tstrand\trecord\n";
@@ -26,7 +25,7 @@ pub fn render(report: &Report) -> String {
             entry.second_start,
             entry.second_end,
             entry.weight,
-            words::strand(entry.strand),
+            entry.strand,
             comparison.number
         );
     }
