@@ -16,6 +16,7 @@ use options::{Options, Request};
 use records::Record;
 use sources::Source;
 use std::env;
+use std::fs::Metadata;
 use std::process::ExitCode;
 
 /// The exit status where the command line or a file is at fault and nothing was
@@ -68,15 +69,20 @@ pub fn read(options: &Options) -> Result<Sequences, Vec<String>> {
     }
 }
 
-/// Every file that is at fault. Standard input is left for the comparison, since
-/// it can be read only once.
+/// Every file that is at fault. What can be read only once, as standard input and
+/// pipes are, is left for the comparison.
 pub fn faults(options: &Options) -> Vec<String> {
-    let first = file(&options.first).and_then(|it| records::read_one(it).err());
-    let seconds = options.seconds.iter().filter_map(file);
+    let first = again(&options.first).and_then(|it| records::read_one(it).err());
+    let seconds = options.seconds.iter().filter_map(again);
     let seconds = seconds.filter_map(|it| records::read_all(it).err());
     first.into_iter().chain(seconds).collect()
 }
 
-fn file(source: &Source) -> Option<&Source> {
-    Some(source).filter(|it| **it != Source::StandardInput)
+/// A source that can be read again, or cannot be read at all.
+fn again(source: &Source) -> Option<&Source> {
+    let Source::File(path) = source else {
+        return None;
+    };
+    let once = |it: Metadata| !it.is_file() && !it.is_dir();
+    Some(source).filter(|_| !path.metadata().is_ok_and(once))
 }

@@ -11,9 +11,11 @@ use std::time::{Duration, SystemTime};
 pub const PROVING: &str =
     "annex: proving and building the library, once; this takes about 5 minutes\n";
 
-/// Proves nothing: says what the kit says, and leaves the archive.
+/// Proves nothing: says what the kit says, and leaves the archive. It takes what it
+/// finds on standard input, which is not meant for it.
 const STATICLIB: &str = "#!/bin/sh
 top=$(dirname \"$0\")/..
+cat
 echo proof >>\"$top/log\"
 echo 'rt: lines proved (0 s)'
 if [ -e \"$top/broken\" ]; then echo 'rt: rules refused'; exit 1; fi
@@ -26,7 +28,9 @@ echo 'rt: lines proved (unchanged since it was last proved)'
 
 /// Builds nothing: leaves the real `asked`, and an `annex` that says what it was
 /// given. Several may do so at once, so what another one runs is not written over.
+/// It too takes what it finds on standard input.
 const CARGO: &str = "#!/bin/sh
+cat
 while [ $# -gt 0 ]; do
     case $1 in
     --package) package=$2 ;;
@@ -41,7 +45,7 @@ if [ \"$package\" = asked ]; then
     mv \"$target/release/asked.$$\" \"$target/release/asked\"
     exit
 fi
-printf '%s\\n' '#!/bin/sh' 'echo \"compared: $*\"' 'if [ \"$1\" = - ]; then cat; fi' \\
+printf '%s\\n' '#!/bin/sh' 'echo \"compared: $*\"' 'if [ \"$1\" != a.fa ]; then cat; fi' \\
     >\"$target/release/annex\"
 chmod +x \"$target/release/annex\"
 ";

@@ -177,14 +177,20 @@ fn a_proof_that_fails_is_shown_and_nothing_is_compared() {
     assert_eq!(clone.run("a.fa b.fa").output, RAN);
 }
 
+/// So is a pipe that is named as a file, which can be read only once too.
 #[test]
 fn standard_input_is_left_for_the_comparison() {
-    let clone = Clone::new("input");
-    let mut command = clone.command("- b.fa", &clone.top.join("annex"));
-    let input = fs::File::open(clone.top.join("a.fa")).unwrap();
-    let output = command.stdin(input).output().unwrap();
-    let output = String::from_utf8(output.stdout).unwrap();
-    assert_eq!(output, "compared: - b.fa\n>a\nACGT\n");
+    for word in ["-", "/dev/stdin"] {
+        let clone = Clone::new("input");
+        let script = format!(
+            "cat a.fa | '{}' {word} b.fa",
+            clone.top.join("annex").display()
+        );
+        let mut command = clone.command("", "sh".as_ref());
+        let output = command.args(["-c", &script]).output().unwrap();
+        let output = String::from_utf8(output.stdout).unwrap();
+        assert_eq!(output, format!("compared: {word} b.fa\n>a\nACGT\n"));
+    }
 }
 
 #[test]
