@@ -65,8 +65,8 @@ fn summary(report: &Report) -> String {
     let numbers = [report.seconds, clauses, with, without, refused];
     let [records, clauses, with, without, refused] = numbers.map(|it| grouped(it as u64));
     format!(
-        "\n\n{records} records: {with} with clauses, {clauses} in all; \
-         {without} without; {refused} refused.\n"
+        "\n\n{records} records: {with} with clauses ({clauses} clauses in all), \
+         {without} without, {refused} refused.\n"
     )
 }
 

@@ -86,7 +86,7 @@ fn a_redirected_batch_tells_refusals_in_words() {
     assert!(text
         .output
         .contains(&format!("\n  Not compared: {words}.\n")));
-    let summary = "\n\n2 records: 1 with clauses, 2 in all; 0 without; 1 refused.\n";
+    let summary = "\n\n2 records: 1 with clauses (2 clauses in all), 0 without, 1 refused.\n";
     assert!(text.output.ends_with(summary));
     for format in ["--tsv", "--paf"] {
         let output = folder
@@ -100,7 +100,7 @@ fn a_redirected_batch_tells_refusals_in_words() {
     assert_eq!(all.output.matches("  Not compared: ").count(), 2);
     assert!(all
         .output
-        .ends_with("\n2 records: 0 with clauses, 0 in all; 0 without; 2 refused.\n"));
+        .ends_with("\n2 records: 0 with clauses (0 clauses in all), 0 without, 2 refused.\n"));
     assert_eq!(all.status, 1);
 }
 
