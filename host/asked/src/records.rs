@@ -7,7 +7,7 @@
 use crate::lines::Lines;
 use crate::sources::{on_one_line, Source, OF_MANY, OF_ONE};
 use settings::LONGEST;
-use std::mem::take;
+use std::mem;
 
 /// One named sequence and where its letters stand in its file.
 #[derive(Debug, PartialEq, Eq)]
@@ -120,7 +120,7 @@ impl Reading<'_> {
         self.records.push(Record {
             file: self.source.to_string(),
             name: name.unwrap_or_else(|| self.file_name()),
-            letters: Vec::with_capacity(take(&mut self.room)),
+            letters: Vec::with_capacity(mem::take(&mut self.room)),
             begins: line,
             lines: Vec::new(),
         });

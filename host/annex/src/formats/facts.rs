@@ -15,9 +15,12 @@ pub enum Value {
     Text(String),
 }
 
-fn number(name: &'static str, value: impl TryInto<u64>) -> Fact {
-    // No count here is anywhere near 64 bits.
-    (name, Value::Number(value.try_into().unwrap_or(u64::MAX)))
+fn number(name: &'static str, value: u64) -> Fact {
+    (name, Value::Number(value))
+}
+
+fn count(name: &'static str, count: usize) -> Fact {
+    number(name, count as u64)
 }
 
 fn text(name: &'static str, value: &str) -> Fact {
@@ -33,10 +36,10 @@ pub fn annex() -> Vec<Fact> {
 pub fn settings(settings: Settings) -> Vec<Fact> {
     let Settings { k, b, a, m, strand } = settings;
     vec![
-        number("k", k),
-        number("b", b),
-        number("a", a),
-        number("m", m),
+        number("k", k.into()),
+        number("b", b.into()),
+        number("a", a.into()),
+        number("m", m.into()),
         text("strand", &strand.to_string()),
     ]
 }
@@ -46,14 +49,14 @@ pub fn sequence(it: &Sequence) -> Vec<Fact> {
     vec![
         text("name", &it.record.name),
         text("file", &it.record.file),
-        number("letters", it.record.letters.len()),
+        count("letters", it.record.letters.len()),
         text("sha256", &it.digest),
     ]
 }
 
 /// A second sequence, with its number before all else.
 pub fn second(it: &Comparison) -> Vec<Fact> {
-    let mut facts = vec![number("record", it.number)];
+    let mut facts = vec![count("record", it.number)];
     facts.extend(sequence(&it.second));
     facts
 }
@@ -78,11 +81,11 @@ pub fn batch(report: &Report) -> Vec<Fact> {
         clauses,
     } = report.tally();
     vec![
-        number("records", report.seconds),
-        number("with_clauses", with),
-        number("without", without),
-        number("refused", refused),
-        number("not_compared", unseen),
-        number("clauses", clauses),
+        count("records", report.seconds),
+        count("with_clauses", with),
+        count("without", without),
+        count("refused", refused),
+        count("not_compared", unseen),
+        count("clauses", clauses),
     ]
 }

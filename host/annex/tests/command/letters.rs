@@ -57,6 +57,9 @@ fn a_sequence_without_a_kmer_has_a_sentence_of_its_own() {
     }
     let both = format!("the first sequence, cut, has no letters; {second}, all-n, {broken}");
     told(&folder, "cut.fa all-n.fa", &both);
+    let neither =
+        format!("the first sequence, cut, has no letters; {second}, name, has no letters");
+    told(&folder, "-k 1 -b 1 -a 1 -m 0 cut.fa name.fa", &neither);
 }
 
 #[test]

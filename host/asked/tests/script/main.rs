@@ -9,6 +9,7 @@ mod clone;
 use clone::{Clone, PROVING};
 use std::fs;
 use std::os::unix::fs::symlink;
+use std::path::Path;
 use std::process::{Command, Stdio};
 use std::thread::sleep;
 use std::time::{Duration, Instant};
@@ -206,6 +207,13 @@ fn a_closed_standard_output_is_a_fault() {
             told,
             "annex: standard output is closed, so that nothing can be listed\n"
         );
+    }
+    // One that is full is a fault too, also before anything is built.
+    if Path::new("/dev/full").exists() {
+        let script = format!("'{}' --help >/dev/full", clone.top.join("annex").display());
+        let mut command = clone.command("", "sh".as_ref());
+        let output = command.args(["-c", &script]).output().unwrap();
+        assert_eq!(output.status.code(), Some(2));
     }
     // What is thrown away is not closed.
     let script = format!(
