@@ -240,6 +240,11 @@ fn a_terminal_shows_crate_by_crate() {
     let shown = String::from_utf8(output.stdout).unwrap();
     assert!(shown.contains("\rannex: crate 1 of 3: lines"), "{shown}");
     assert!(shown.contains("\rannex: crate 2 of 3: rules"), "{shown}");
+    assert!(
+        shown.contains("\rannex: all 3 crates are proved; building the library"),
+        "{shown}"
+    );
+    assert_eq!(shown.matches("crate ").count(), 2, "{shown}");
     assert!(shown.ends_with("\x1B[Kcompared: a.fa b.fa\r\n"), "{shown}");
 }
 
