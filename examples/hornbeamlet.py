@@ -26,6 +26,7 @@ import sys
 from typing import List, NamedTuple
 
 FORWARD, BOTH = 0, 1  # the strand: the second sequence as it stands, or both
+MASKED_FORM, MASKED_BREAK = 0, 1  # the mask: what letters in lower case do to k-mers
 RECORD, ENTRY, ANSWER = 8, 6, 7  # numbers in a record, an entry, the answer
 REFUSED = 2**32  # what hornbeamlet_need adds to the number of a refusal
 LIST_SHORT = 8  # the refusal of list room that is too short
@@ -73,7 +74,7 @@ def library():
     loaded = ctypes.CDLL(str(path))
     number, size = ctypes.c_uint32, ctypes.c_size_t
     # c_char_p takes the bytes as they lie; their number goes with them
-    job = [number] * 5 + [ctypes.c_char_p, size] * 2
+    job = [number] * 6 + [ctypes.c_char_p, size] * 2
     room = [ctypes.POINTER(number), size]
     loaded.hornbeamlet_need.argtypes = job
     loaded.hornbeamlet_need.restype = ctypes.c_uint64
@@ -83,10 +84,11 @@ def library():
     return loaded
 
 
-def compare(first, second, k=13, b=300, a=20, m=100, strand=BOTH):
+def compare(
+    first, second, k=13, b=300, a=20, m=100, strand=BOTH, mask=MASKED_FORM
+):
     """The listing of two sequences, given as text or bytes; or Refused."""
-    # ctypes would cut what 32 bits do not hold, and a good number might be left
-    settings = [n if 0 <= n <= LARGEST else LARGEST for n in (k, b, a, m, strand)]
+    settings = [lent_number(n) for n in (k, b, a, m, strand, mask)]
     job = settings + lent_letters(first) + lent_letters(second)
     records = library().hornbeamlet_need(*job)
     # where need refuses, compare gives the same refusal with its particulars
@@ -101,6 +103,11 @@ def compare(first, second, k=13, b=300, a=20, m=100, strand=BOTH):
         if number != LIST_SHORT:
             raise Refused(number, sequence, detail)
         entries = detail
+
+
+def lent_number(number):
+    """A number of 32 bits: ctypes would cut others, and a good one might be left."""
+    return number if 0 <= number <= LARGEST else LARGEST
 
 
 def lent_letters(sequence):

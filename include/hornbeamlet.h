@@ -18,21 +18,27 @@
  *                          this in either sequence is not listed
  *   strand   0 or 1        0 the forward strand, 1 both strands; the stopped
  *                          sweep names one strand, and 1 is the reverse
+ *   mask     0 or 1        0 masked letters form k-mers as their capitals do,
+ *                          1 they break k-mers as N does
  *
  * SEQUENCES
  *
  * Each is a pointer to 0 to 16,384 bytes and their number; no zero byte ends
- * it. The letters are A B C D G H K M N R S T V W Y, capitals only. K-mers are
- * made of A, C, G and T alone, so the others break them. Places count from 1:
- * row i is a place of the first sequence, column j one of the second.
+ * it. The letters are A B C D G H K M N R S T V W Y and the same in lower case,
+ * which are masked; neither U nor u is one. K-mers are made of A, C, G and T
+ * alone, so the others break them. A masked letter is taken as its capital or
+ * breaks k-mers, as the mask setting says, and has its place either way. Places
+ * count from 1: row i is a place of the first sequence, column j one of the
+ * second.
  *
  * STRANDS
  *
  * On the forward strand the second sequence is taken as it stands, on the
  * reverse strand turned round: from its last letter to its first, each as its
  * complement (A and T change places, C and G, R and Y, K and M, B and V, D and
- * H; S, W and N stay). Each strand is a sweep with columns of its own, and its
- * k-mers are counted in the first sequence and in the second as it is taken.
+ * H; S, W and N stay), masked where it was. Each strand is a sweep with columns
+ * of its own, and its k-mers are counted in the first sequence and in the
+ * second as it is taken.
  *
  * MATCHES AND CHAINS
  *
@@ -87,11 +93,12 @@
  *   3       a is outside its range            0         0          untouched
  *   4       m is outside its range            0         0          untouched
  *   9       the strand is not 0 or 1          0         0          untouched
+ *   10      the mask setting is not 0 or 1    0         0          untouched
  *   5       a sequence is too long,           1 or 2    0          untouched
  *           the first looked at first
- *   6       a letter is not one of the        1 or 2    its first  untouched
- *           fifteen, all of the first                   place
- *           sequence before the second
+ *   6       a byte is none of the letters,    1 or 2    its first  untouched
+ *           all of the first sequence                   place
+ *           before the second
  *   7       work room for fewer than W        0         W          all zeros
  *           records
  *   8       list room for too few entries     0         how many   all zeros
@@ -108,7 +115,7 @@
  *
  *   kind             values
  *   1   job          k, b, a, m (k below 256, the others below 65,536), strand
- *                    (below 256)
+ *                    (below 256); the mask setting is 0
  *   2   piece of     1 to 128 letter codes: A 1, C 2, M 3, G 4, R 5, S 6, V 7,
  *       the first    T 8, W 9, Y 10, H 11, K 12, D 13, B 14, N 15
  *   3   piece of     the same
@@ -124,7 +131,9 @@
  *
  * An input is one job, any number of 2, any number of 3 and one end; what chain
  * writes is the entries and one done frame, or one refused frame alone. A line
- * is never longer than HORNBEAMLET_LINE bytes.
+ * is never longer than HORNBEAMLET_LINE bytes. The codes are those of capitals,
+ * which is what masked letters are written as, and a job with mask setting 1
+ * has no frame.
  *
  * A frame is refused with 27 where it is of no such kind, has another number
  * of values, a value does not fit, or the line does not hold it.
@@ -180,7 +189,7 @@
  *   static const uint8_t first[] =
  *       "ACGTTGCAAGTCCATGGATCTTAGCCGATACCGTAAGCTC";
  *   static const uint8_t second[] =
- *       "GAGCTTACGGTATCGGCTAACCACGTTGCAAGTCCATGGATC";
+ *       "GAGCTTACGGTATCGGCTAACCacgttgcaagtCCATGGATC";
  *   static const size_t first_len = sizeof first - 1;
  *   static const size_t second_len = sizeof second - 1;
  *
@@ -203,6 +212,7 @@
  *   {
  *       uint64_t answer[HORNBEAMLET_ANSWER];
  *       uint64_t records = hornbeamlet_need(K, B, A, M, HORNBEAMLET_BOTH,
+ *                                           HORNBEAMLET_MASKED_FORM,
  *                                           first, first_len,
  *                                           second, second_len);
  *       size_t work_len = 0, list_len = HORNBEAMLET_ENTRY, i;
@@ -214,6 +224,7 @@
  *       for (;;) {
  *           list = lend(list, list_len);
  *           hornbeamlet_compare(K, B, A, M, HORNBEAMLET_BOTH,
+ *                               HORNBEAMLET_MASKED_FORM,
  *                               first, first_len, second, second_len,
  *                               work, work_len, list, list_len, answer);
  *           if (answer[0] != LIST_SHORT)
@@ -256,6 +267,9 @@ extern "C" {
 #define HORNBEAMLET_BOTH 1
 /* The strand for hornbeamlet_stopped: HORNBEAMLET_FORWARD or this one. */
 #define HORNBEAMLET_REVERSE 1
+/* The mask setting: masked letters form k-mers, or break them. */
+#define HORNBEAMLET_MASKED_FORM 0
+#define HORNBEAMLET_MASKED_BREAK 1
 /* The kinds of frames. */
 #define HORNBEAMLET_JOB 1
 #define HORNBEAMLET_FIRST_PIECE 2
@@ -273,11 +287,11 @@ extern "C" {
 /*
  * How much work room the job needs. The reply is W, the number of records,
  * over both strands the larger W, so lend HORNBEAMLET_RECORD * W numbers; or
- * HORNBEAMLET_REFUSED plus the number of the refusal, 1 to 6 or 9. A W is
+ * HORNBEAMLET_REFUSED plus the number of the refusal, 1 to 6, 9 or 10. A W is
  * always below HORNBEAMLET_REFUSED.
  */
 uint64_t hornbeamlet_need(uint32_t k, uint32_t b, uint32_t a, uint32_t m,
-                          uint32_t strand,
+                          uint32_t strand, uint32_t mask,
                           const uint8_t *first, size_t first_len,
                           const uint8_t *second, size_t second_len);
 
@@ -291,7 +305,7 @@ uint64_t hornbeamlet_need(uint32_t k, uint32_t b, uint32_t a, uint32_t m,
  * numbers and call again.
  */
 void hornbeamlet_compare(uint32_t k, uint32_t b, uint32_t a, uint32_t m,
-                         uint32_t strand,
+                         uint32_t strand, uint32_t mask,
                          const uint8_t *first, size_t first_len,
                          const uint8_t *second, size_t second_len,
                          uint32_t *work, size_t work_len,
@@ -308,7 +322,7 @@ void hornbeamlet_compare(uint32_t k, uint32_t b, uint32_t a, uint32_t m,
  * checked and not used.
  */
 void hornbeamlet_stopped(uint32_t k, uint32_t b, uint32_t a, uint32_t m,
-                         uint32_t strand,
+                         uint32_t strand, uint32_t mask,
                          const uint8_t *first, size_t first_len,
                          const uint8_t *second, size_t second_len,
                          uint32_t *work, size_t work_len,

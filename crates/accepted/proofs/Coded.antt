@@ -17,7 +17,7 @@ use Rattle.rules.specs.Records.{recordsFrom, records}
 use Rattle.rules.specs.Listing.{listing}
 use Rattle.rules.specs.Rooms.{held, largestRun, pairs, matchTotal, workNeed, linkTotal}
 use Rattle.rules.specs.Strands.{onStrand, strandNumbers, strandEntries, entries, matchSum, largerNeed, linkSum}
-use Rattle.rules.specs.Answers.{comparing, stoppedSweep}
+use Rattle.rules.specs.Answers.{comparing, comparedSweeps, stoppedSweep}
 use Rattle.rules.proofs.Kmers.{codes-length, match-by-code}
 use Rattle.rules.proofs.Strands.{one-strand, two-strands}
 use Rattle.rules.proofs.Tests.{Three, below, equal, above, three}
@@ -94,9 +94,8 @@ module _ (c : Settings) (s t : List ℕ) where
 
   -- ---- the outcomes
 
-  pub compared-own : (work list : List ℕ)
-      → comparedCoded c (codes (c .k) s) t work list ≡ comparing (entries c s t) (matchSum c s t) (largerNeed c s t) (linkSum c s t) work list
-  unfolding comparedCoded comparedOf
+  pub compared-own : (work list : List ℕ) → comparedCoded c (codes (c .k) s) t work list ≡ comparedSweeps c s t work list
+  unfolding comparedCoded comparedOf comparedSweeps
   compared-own work list =
       let back = own-matches c s (onStrand 1 t) rows in
       (λ i. comparedOf c (length t) (forward-own i) (own-rows c s i) (back i) rows work list)

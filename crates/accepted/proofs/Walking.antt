@@ -5,12 +5,14 @@ use Prim.Native.Nat.{ℕ}
 use lib.ListN.{length, take, replicate, length-replicate}
 use Rattle.rules.specs.declared.Settings.{Settings}
 use Rattle.rules.specs.declared.Answer.{Answer}
+use Rattle.rules.specs.Letters.{asRead}
 use Rattle.rules.specs.Strands.{onStrand}
 use Rattle.rules.specs.Answers.{left}
 use Rattle.rules.proofs.ListLaws.{zeros-at}
 use Rattle.matches.specs.Walks.{walked}
 use Rattle.walks.specs.Matched.{codedMatches, Fits, Columns, BothColumns}
 use Rattle.walks.proofs.Matching.{Blank, Matched, BothMatched, both-matched, strand-matched}
+use Rattle.walks.proofs.Turning.{read-fits}
 use Rattle.tally.specs.declared.Counts.{Counts}
 use Rattle.strands.specs.Strands.{largerOf, bothCounts, Walked}
 use Rattle.jobs.specs.Jobs.{comparedOf}
@@ -24,15 +26,16 @@ none = replicate 16384 0
 pub blank : Blank none
 blank = record { long = length-replicate {A = ℕ} 16384 0; empty = zeros-at 16384 }
 
--- walks that were made in such arrays
+-- walks that were made in such arrays, of letters that fit and as they are read
 pub both-walks : {c : Settings} {coded t firsts nexts reverse-firsts reverse-nexts : List ℕ} {rows : ℕ} → Fits c coded t
-    → BothColumns c coded t none none none none firsts nexts reverse-firsts reverse-nexts rows
-    → BothMatched c coded t firsts nexts reverse-firsts reverse-nexts rows
-both-walks ok m = both-matched ok blank blank blank blank m
+    → BothColumns c coded (asRead (c .mask) t) none none none none firsts nexts reverse-firsts reverse-nexts rows
+    → BothMatched c coded (asRead (c .mask) t) firsts nexts reverse-firsts reverse-nexts rows
+both-walks {c} ok m = both-matched (read-fits (c .mask) ok) blank blank blank blank m
 
-pub strand-walks : {c : Settings} {coded t firsts nexts : List ℕ} → Fits c coded t → Columns c coded (onStrand (c .strand) t) none none firsts nexts
-    → Matched c coded (onStrand (c .strand) t) firsts nexts (length coded)
-strand-walks ok m = strand-matched ok blank blank m
+pub strand-walks : {c : Settings} {coded t firsts nexts : List ℕ} → Fits c coded t
+    → Columns c coded (onStrand (c .strand) (asRead (c .mask) t)) none none firsts nexts
+    → Matched c coded (onStrand (c .strand) (asRead (c .mask) t)) firsts nexts (length coded)
+strand-walks {c} ok m = strand-matched (read-fits (c .mask) ok) blank blank m
 
 -- walks that fit a job
 pub walks-fit : {c : Settings} {coded t u firsts nexts : List ℕ} {rows : ℕ} → Fits c coded t → Matched c coded u firsts nexts rows

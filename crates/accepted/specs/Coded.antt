@@ -1,4 +1,4 @@
--- The outcomes of a job that the checks let pass, from the codes of its first sequence. That they are those of the rules, where the codes are a sequence's,
+-- The outcomes of a job that the checks let pass, from the codes of its first sequence and the letters of its second as they are read. That they are those of the rules, where the codes are a sequence's,
 -- is proved (proofs/Coded.antt). Assumes nothing.
 use mathlib.Core.List.{List}
 use Prim.Native.Nat.{ℕ}

@@ -4,6 +4,7 @@ use rules::Answer;
 use rules::Settings;
 ghost use mathlib.Core.Path.{_≡_};
 ghost use mathlib.Core.List.{[]};
+ghost use Rattle.rules.specs.Letters.{asRead};
 ghost use Rattle.rules.specs.Answers.{left};
 ghost use Rattle.walks.specs.Matched.{Fits};
 ghost use Rattle.accepted.specs.Coded.{comparedCoded, stoppedCoded, neededCoded};
@@ -17,7 +18,7 @@ pub fn compare_coded(
     list: &mut [u32],
 ) -> Answer
     requires { ⌜ Fits c (now coded) (now second) ⌝ }
-    ensures { λ r. ⌜ left r (now (work .exit)) (now (list .exit)) ≡ comparedCoded c (now (coded .entry)) (now (second .entry)) (now (work .entry)) (now (list .entry)) ⌝ }
+    ensures { λ r. ⌜ left r (now (work .exit)) (now (list .exit)) ≡ comparedCoded c (now (coded .entry)) (asRead (c .mask) (now (second .entry))) (now (work .entry)) (now (list .entry)) ⌝ }
 {
     let rows = coded.len();
     // columns of rows and of columns on each strand: places, and no records
@@ -49,7 +50,7 @@ pub fn compare_coded(
 // Leaves the run of a row of the one strand that is named.
 pub fn stop_coded(c: Settings, coded: &[u64], second: &[u8], work: &mut [u32], row: u32) -> Answer
     requires { ⌜ Fits c (now coded) (now second) ⌝ }
-    ensures { λ r. ⌜ left r (now (work .exit)) [] ≡ stoppedCoded c (now (coded .entry)) (now (second .entry)) (now (work .entry)) row ⌝ }
+    ensures { λ r. ⌜ left r (now (work .exit)) [] ≡ stoppedCoded c (now (coded .entry)) (asRead (c .mask) (now (second .entry))) (now (work .entry)) row ⌝ }
 {
     let rows = coded.len();
     // as above
@@ -62,7 +63,7 @@ pub fn stop_coded(c: Settings, coded: &[u64], second: &[u8], work: &mut [u32], r
 // Tells how many records of work room the strands that are named need.
 pub fn need_coded(c: Settings, coded: &[u64], second: &[u8]) -> usize
     requires { ⌜ Fits c (now coded) (now second) ⌝ }
-    ensures { λ r. ⌜ r ≡ neededCoded c (now (coded .entry)) (now (second .entry)) ⌝ }
+    ensures { λ r. ⌜ r ≡ neededCoded c (now (coded .entry)) (asRead (c .mask) (now (second .entry))) ⌝ }
 {
     let rows = coded.len();
     // as above

@@ -1,4 +1,5 @@
--- The entry points: a refused job ends with its rooms untouched, and an accepted one is the job on the codes of its own letters. Assumes nothing.
+-- The entry points: a refused job ends with its rooms untouched, and an accepted one is the job on the codes of its own letters, as
+-- they are read. Assumes nothing.
 use mathlib.Core.Path.{_≡_, refl, sym, ap, _∙_}
 use mathlib.Core.List.{List, [], _++_}
 use Prim.Native.Nat.{ℕ, _+_, _≤_}
@@ -7,10 +8,12 @@ use borrow.Author.Tests.{eq-eqb, ne-eqb}
 use lib.ListN.{length, take, length-append}
 use Rattle.rules.specs.declared.Settings.{Settings}
 use Rattle.rules.specs.declared.Answer.{Answer}
+use Rattle.rules.specs.Letters.{asRead}
 use Rattle.rules.specs.Places.{places}
 use Rattle.rules.specs.Codes.{codes}
 use Rattle.rules.specs.Answers.{Outcome, left, checked, afterChecks, compared, stopped, replied}
 use Rattle.rules.proofs.Kmers.{codes-length}
+use Rattle.rules.proofs.Masks.{read-places}
 use Rattle.rules.proofs.Outcomes.{left-path}
 use Rattle.kmers.proofs.Codes.{codes-front, places-few}
 use Rattle.refusals.proofs.Checking.{number-refuses, accepted}
@@ -51,22 +54,32 @@ module _ (c : Settings) (s t : List ℕ) {r : Answer} (e : r ≡ checked c s t) 
 
 -- ---- the codes of an accepted job
 
--- the checks gave nothing, and so many codes stand in front of an array
+-- the checks gave nothing, and so many codes stand in front of an array: those of the first sequence as it is read
 pub record Coded (c : Settings) (s t out : List ℕ) (rows : ℕ) : Type 0 where
   pub passed : checked c s t .number ≡ 0
   pub rows-are : rows ≡ places (c .k) s
   pub rest : List ℕ
-  pub filled : out ≡ codes (c .k) s ++ rest
+  pub filled : out ≡ codes (c .k) (asRead (c .mask) s) ++ rest
 
 module _ (c : Settings) (s t : List ℕ) {out : List ℕ} {rows : ℕ} (y : Coded c s t out rows) where
-  front : take rows out ≡ codes (c .k) s
-  front = codes-front (c .k) s (y .rest) (y .rows-are) (y .filled)
+  -- both sequences as they are read
+  abbrev s′ : List ℕ
+  s′ = asRead (c .mask) s
+
+  abbrev t′ : List ℕ
+  t′ = asRead (c .mask) t
+
+  rows-read : rows ≡ places (c .k) s′
+  rows-read = y .rows-are ∙ sym (read-places (c .mask) (c .k) s)
+
+  front : take rows out ≡ codes (c .k) s′
+  front = codes-front (c .k) s′ (y .rest) rows-read (y .filled)
 
   pub rows-inside : rows ≤ length out
-  rows-inside = omega (arith, y .rows-are, simp length-append at (ap length (y .filled)), codes-length (c .k) s)
+  rows-inside = omega (arith, rows-read, simp length-append at (ap length (y .filled)), codes-length (c .k) s′)
 
   pub front-long : rows ≡ length (take rows out)
-  front-long = y .rows-are ∙ sym (ap length front ∙ codes-length (c .k) s)
+  front-long = rows-read ∙ sym (ap length front ∙ codes-length (c .k) s′)
 
   pub fits : Fits c (take rows out) t
   fits =
@@ -82,17 +95,17 @@ module _ (c : Settings) (s t : List ℕ) {out : List ℕ} {rows : ℕ} (y : Code
 
   -- ---- the jobs on them
 
-  pub compares : (work list : List ℕ) {o : Outcome} → o ≡ comparedCoded c (take rows out) t work list → o ≡ compared c s t work list
+  pub compares : (work list : List ℕ) {o : Outcome} → o ≡ comparedCoded c (take rows out) t′ work list → o ≡ compared c s t work list
   unfolding compared
   compares work list e =
-      e ∙ ap (λ (l : List ℕ). comparedCoded c l t work list) front ∙ compared-own c s t work list ∙ sym (after-accepted c s t work list _ (y .passed))
+      e ∙ ap (λ (l : List ℕ). comparedCoded c l t′ work list) front ∙ compared-own c s′ t′ work list ∙ sym (after-accepted c s t work list _ (y .passed))
 
-  pub stops : (work : List ℕ) (row : ℕ) {o : Outcome} → o ≡ stoppedCoded c (take rows out) t work row → o ≡ stopped c s t work row
+  pub stops : (work : List ℕ) (row : ℕ) {o : Outcome} → o ≡ stoppedCoded c (take rows out) t′ work row → o ≡ stopped c s t work row
   unfolding stopped
   stops work row e =
-      e ∙ ap (λ (l : List ℕ). stoppedCoded c l t work row) front ∙ stopped-own c s t work row ∙ sym (after-accepted c s t work [] _ (y .passed))
+      e ∙ ap (λ (l : List ℕ). stoppedCoded c l t′ work row) front ∙ stopped-own c s′ t′ work row ∙ sym (after-accepted c s t work [] _ (y .passed))
 
-  pub replies : {n : ℕ} → n ≡ neededCoded c (take rows out) t → n ≡ replied c s t
+  pub replies : {n : ℕ} → n ≡ neededCoded c (take rows out) t′ → n ≡ replied c s t
   unfolding replied
   replies e =
-      e ∙ ap (λ (l : List ℕ). neededCoded c l t) front ∙ needed-own c s t ∙ sym (rw (eq-eqb (checked c s t .number) 0 (y .passed)))
+      e ∙ ap (λ (l : List ℕ). neededCoded c l t′) front ∙ needed-own c s′ t′ ∙ sym (rw (eq-eqb (checked c s t .number) 0 (y .passed)))

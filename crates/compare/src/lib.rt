@@ -6,7 +6,8 @@ ghost use mathlib.Core.Path.{_≡_};
 ghost use mathlib.Core.List.{[]};
 ghost use Rattle.rules.specs.Answers.{left, compared, stopped as stoppedBy, replied};
 
-// Lists the intervals that two sequences share, on the forward strand or on both. Checks 1 to 8, with 9 after 4: the first that applies.
+// Lists the intervals that two sequences share, on the forward strand or on both. Checks 1 to 8, with 9 and 10 after 4: the
+// first that applies.
 pub fn compare(
     settings: Settings,
     first: &[u8],
@@ -22,11 +23,12 @@ pub fn compare(
     }
     // codes, and no records
     let mut codes = [0u64; 16384];
-    let rows = kmers::code_all(first, settings.k, &mut codes);
+    let rows = kmers::code_all(first, settings.k, settings.mask, &mut codes);
     accepted::compare_coded(settings, &codes[..rows], second, work, list)
 }
 
-// Sweeps one strand up to a row and leaves the run of that row in work room. Checks 1 to 7, with 9 after 4, then 19; m is checked and not used.
+// Sweeps one strand up to a row and leaves the run of that row in work room. Checks 1 to 7, with 9 and 10 after 4, then 19; m is checked and not
+// used.
 pub fn stopped(
     settings: Settings,
     first: &[u8],
@@ -42,11 +44,11 @@ pub fn stopped(
     }
     // as above
     let mut codes = [0u64; 16384];
-    let rows = kmers::code_all(first, settings.k, &mut codes);
+    let rows = kmers::code_all(first, settings.k, settings.mask, &mut codes);
     accepted::stop_coded(settings, &codes[..rows], second, work, row)
 }
 
-// How many records of work room a job needs: W, the larger of both strands, or 4,294,967,296 plus the refusal number 1 to 6 or 9.
+// How many records of work room a job needs: W, the larger of both strands, or 4,294,967,296 plus the refusal number 1 to 6, 9 or 10.
 pub fn need(settings: Settings, first: &[u8], second: &[u8]) -> u64
     ensures { λ r. ⌜ r ≡ replied settings (now (first .entry)) (now (second .entry)) ⌝ }
 {
@@ -57,6 +59,6 @@ pub fn need(settings: Settings, first: &[u8], second: &[u8]) -> u64
     }
     // as above
     let mut codes = [0u64; 16384];
-    let rows = kmers::code_all(first, settings.k, &mut codes);
+    let rows = kmers::code_all(first, settings.k, settings.mask, &mut codes);
     accepted::need_coded(settings, &codes[..rows], second) as u64
 }

@@ -61,13 +61,13 @@ module _ (k b a m strand : ℕ) where
         strand-narrow = ltb-true strand 4294967296 (and-right (tk && tb && ta && tm) ts h);
       }
 
-  pub wide-job : narrow ≡ false → jobFits (settings k b a m strand) ≡ false
-  wide-job h = go (jobFits (settings k b a m strand)) refl
+  pub wide-job : narrow ≡ false → jobFits (settings k b a m strand 0) ≡ false
+  wide-job h = go (jobFits (settings k b a m strand 0)) refl
     where
-      go : (t : Bool) → jobFits (settings k b a m strand) ≡ t → t ≡ false
+      go : (t : Bool) → jobFits (settings k b a m strand 0) ≡ t → t ≡ false
       go false e = refl
       go true e =
-          let p = job-parts (settings k b a m strand) e in
+          let p = job-parts (settings k b a m strand 0) e in
           let n : narrow ≡ true =
           rw (
             lt-ltb k 4294967296 (omega (arith, p .k-fits)),

@@ -19,9 +19,9 @@ use Rattle.readers.specs.Readers.{readEntry, readReverse, readDone, readRefused
 
 -- ---- the values of each kind
 
--- "k (1 byte), b, a, m (2 each)", and the strand
+-- "k (1 byte), b, a, m (2 each)", and the strand. CR 5: "a job frame means setting 0"
 unfoldable pub jobOf : List ℕ → Settings
-jobOf v = settings (getD v 0 0) (getD v 1 0) (getD v 2 0) (getD v 3 0) (getD v 4 0)
+jobOf v = settings (getD v 0 0) (getD v 1 0) (getD v 2 0) (getD v 3 0) (getD v 4 0) 0
 
 -- "the five numbers": first start, first end, second start, second end, weight
 unfoldable pub entryOf : List ℕ → Entry

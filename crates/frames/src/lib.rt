@@ -61,7 +61,7 @@ fn refused_of(values: &[u64]) -> Refused
     }
 }
 
-// A job, whose settings have 32 bits each: a value that has more fits no field of a job.
+// A job, whose settings have 32 bits each: a value that has more fits no field of a job. Its frame has no field for the mask, which is 0.
 fn write_job(values: &[u64], line: &mut [u8]) -> Written
     ensures { λ r. ⌜ r ≡ wantedWritten (jobWanted (now (values .entry))) (now (line .entry)) ⌝ }
     ensures { λ _. ⌜ now (line .exit) ≡ wantedLeft (jobWanted (now (values .entry))) (now (line .entry)) ⌝ }
@@ -83,6 +83,7 @@ fn write_job(values: &[u64], line: &mut [u8]) -> Written
             a: a as u32,
             m: m as u32,
             strand: strand as u32,
+            mask: 0,
         };
         return writers::write_job(job, line);
     }

@@ -6,7 +6,21 @@ ghost use Rattle.rules.specs.Answers.{compared, stopped as stoppedBy, replied};
 ghost use Rattle.answers.specs.Numbers.{answerNumbers};
 ghost use Rattle.frames.specs.Frames.{frameReply, frameLeft, readFrame};
 
-// How many records of work room are needed: W, the larger of both strands, or 4,294,967,296 plus the refusal number 1 to 6 or 9.
+// The settings of a job by their numbers.
+fn entered(k: u32, b: u32, a: u32, m: u32, strand: u32, mask: u32) -> Settings
+    ensures { λ r. ⌜ r ≡ settings k b a m strand mask ⌝ }
+{
+    Settings {
+        k,
+        b,
+        a,
+        m,
+        strand,
+        mask,
+    }
+}
+
+// How many records of work room are needed: W, the larger of both strands, or 4,294,967,296 plus the refusal number 1 to 6, 9 or 10.
 #[no_mangle]
 pub extern "C" fn hornbeamlet_need(
     k: u32,
@@ -14,12 +28,13 @@ pub extern "C" fn hornbeamlet_need(
     a: u32,
     m: u32,
     strand: u32,
+    mask: u32,
     first: &[u8],
     second: &[u8],
 ) -> u64
-    ensures { λ r. ⌜ r ≡ replied (settings k b a m strand) (now (first .entry)) (now (second .entry)) ⌝ }
+    ensures { λ r. ⌜ r ≡ replied (settings k b a m strand mask) (now (first .entry)) (now (second .entry)) ⌝ }
 {
-    compare::need(Settings { k, b, a, m, strand }, first, second)
+    compare::need(entered(k, b, a, m, strand, mask), first, second)
 }
 
 // The compare job.
@@ -30,15 +45,16 @@ pub extern "C" fn hornbeamlet_compare(
     a: u32,
     m: u32,
     strand: u32,
+    mask: u32,
     first: &[u8],
     second: &[u8],
     work: &mut [u32],
     list: &mut [u32],
     answer: &mut [u64; 7],
 )
-    ensures { λ _. let o = compared (settings k b a m strand) (now (first .entry)) (now (second .entry)) (now (work .entry)) (now (list .entry)) in ⌜ (now (answer .exit) ≡ answerNumbers (o .answer)) × (now (work .exit) ≡ o .work) × (now (list .exit) ≡ o .list) ⌝ }
+    ensures { λ _. let o = compared (settings k b a m strand mask) (now (first .entry)) (now (second .entry)) (now (work .entry)) (now (list .entry)) in ⌜ (now (answer .exit) ≡ answerNumbers (o .answer)) × (now (work .exit) ≡ o .work) × (now (list .exit) ≡ o .list) ⌝ }
 {
-    let x = compare::compare(Settings { k, b, a, m, strand }, first, second, work, list);
+    let x = compare::compare(entered(k, b, a, m, strand, mask), first, second, work, list);
     answers::put_answer(answer, x);
 }
 
@@ -50,15 +66,16 @@ pub extern "C" fn hornbeamlet_stopped(
     a: u32,
     m: u32,
     strand: u32,
+    mask: u32,
     first: &[u8],
     second: &[u8],
     work: &mut [u32],
     row: u32,
     answer: &mut [u64; 7],
 )
-    ensures { λ _. let o = stoppedBy (settings k b a m strand) (now (first .entry)) (now (second .entry)) (now (work .entry)) row in ⌜ (now (answer .exit) ≡ answerNumbers (o .answer)) × (now (work .exit) ≡ o .work) ⌝ }
+    ensures { λ _. let o = stoppedBy (settings k b a m strand mask) (now (first .entry)) (now (second .entry)) (now (work .entry)) row in ⌜ (now (answer .exit) ≡ answerNumbers (o .answer)) × (now (work .exit) ≡ o .work) ⌝ }
 {
-    let x = compare::stopped(Settings { k, b, a, m, strand }, first, second, work, row);
+    let x = compare::stopped(entered(k, b, a, m, strand, mask), first, second, work, row);
     answers::put_answer(answer, x);
 }
 

@@ -1,6 +1,6 @@
--- From letters to codes to frames and back: accepted letters, cut into pieces by their codes and written by our writers, are read as the same letters.
--- Assumes nothing.
-use mathlib.Core.Path.{_≡_, refl, sym, ap, _∙_}
+-- From letters to codes to frames and back: accepted letters, cut into pieces by their codes and written by our writers, are read as their capitals, since
+-- "Frames carry capitals only". Assumes nothing.
+use mathlib.Core.Path.{_≡_, refl, sym, ap, ap₂, _∙_}
 use mathlib.Core.Bool.{Bool, true, false, _&&_}
 use mathlib.Core.List.{List, [], _∷_, _++_, map, map-append, List·Memᴰ, List·Memᴰ·head, List·Memᴰ·tail}
 use Prim.Native.Nat.{ℕ, suc, _<_, _≤_}
@@ -10,15 +10,16 @@ use lib.ListN.{length}
 use borrow.Author.Tests.{le-leb, eqb-false}
 use Rattle.rules.specs.declared.Settings.{Settings}
 use Rattle.rules.specs.Lists.{laid}
-use Rattle.rules.specs.Letters.{letterOf, codeOf, badFrom, badPlace}
+use Rattle.rules.specs.Letters.{letterOf, codeOf, badFrom, badPlace, standsFor, asRead}
 use Rattle.rules.proofs.Letters.{code-small, letter-of-code}
+use Rattle.rules.proofs.Masks.{read-length}
 use Rattle.decoding.proofs.Decoding.{and-left, and-right}
 use Rattle.payloads.specs.Pieces.{allCodes, codesFit}
 use Rattle.kinds.specs.Kinds.{jobFits, jobLine, pieceLine, endLine}
 use Rattle.input.specs.Grammar.{inputOf}
 use Rattle.input.proofs.RoundTrip.{letters, Fit, round-trip}
 
--- ---- accepted letters have codes, and are their letters
+-- ---- accepted letters have codes, and their capitals are the letters of these
 
 record Coded (x n : ℕ) (xs : List ℕ) : Type 0 where
   has-code : 0 < codeOf x
@@ -39,9 +40,10 @@ are-codes n (x ∷ xs) h =
     let c = coded x n xs h in
     rw (le-leb 1 (codeOf x) (omega (arith, c .has-code)), le-leb (codeOf x) 15 (omega (arith, code-small x))) (are-codes (suc n) xs (c .rest))
 
-letters-of : (n : ℕ) (s : List ℕ) → badFrom (suc n) s ≡ 0 → map letterOf (map codeOf s) ≡ s
-letters-of n [] h = refl
-letters-of n (x ∷ xs) h = let c = coded x n xs h in rw (letter-of-code x (c .has-code), letters-of (suc n) xs (c .rest))
+letters-of : (s : List ℕ) → map letterOf (map codeOf s) ≡ asRead 0 s
+unfolding asRead standsFor
+letters-of [] = refl
+letters-of (x ∷ xs) = ap₂ {C = List ℕ} (λ y ys. y ∷ ys) (letter-of-code x) (letters-of xs)
 
 -- ---- cut into pieces
 
@@ -91,22 +93,23 @@ module _ (s : List ℕ) (xs : List (List ℕ)) (accepted : badPlace s ≡ 0) (cu
       let all : allCodes (laid (λ (z : List ℕ). z) xs) ≡ true = ap allCodes (cut .joined) ∙ are-codes 0 s accepted in
       rw (le-leb 1 (length x) (cut .some x i), le-leb (length x) 128 (cut .few x i)) (each-codes xs all x i)
 
-  same-letters : letters xs ≡ s
-  unfolding badPlace
-  same-letters = letters-joined xs ∙ ap (map letterOf) (cut .joined) ∙ letters-of 0 s accepted
+  capitals : letters xs ≡ asRead 0 s
+  capitals = letters-joined xs ∙ ap (map letterOf) (cut .joined) ∙ letters-of s
 
 -- a job and two sequences of accepted letters, cut into pieces of any sizes by their codes, written line by line with the end, are read back as the
--- same settings and exactly those letters
+-- same settings and the capitals of exactly those letters, which are what the job reads
 pub letters-round-trip : (c : Settings) (first second : List ℕ) (xs ys : List (List ℕ)) → jobFits c ≡ true → badPlace first ≡ 0 → badPlace second ≡ 0
     → length first ≤ 16384 → length second ≤ 16384 → Cut (map codeOf first) xs → Cut (map codeOf second) ys
     → inputOf (jobLine c ++ (laid (pieceLine 1) xs ++ (laid (pieceLine 2) ys ++ endLine)))
     ≡ record {
       answer = record { number = 0; line = 0; settings = c; first = length first; second = length second };
-      first = first;
-      second = second;
+      first = asRead 0 first;
+      second = asRead 0 second;
     }
 letters-round-trip c first second xs ys h a b l m p q =
-    let ef = same-letters first xs a p in
-    let es = same-letters second ys b q in
-    let r = round-trip c xs ys h (pieces-fit first xs a p) (pieces-fit second ys b q) (rw ef l) (rw es m) in
-    rw (ef, es) at r
+    let ef = capitals first xs a p in
+    let es = capitals second ys b q in
+    let lf : length (letters xs) ≡ length first = ap length ef ∙ read-length 0 first in
+    let ls : length (letters ys) ≡ length second = ap length es ∙ read-length 0 second in
+    let r = round-trip c xs ys h (pieces-fit first xs a p) (pieces-fit second ys b q) (rw lf l) (rw ls m) in
+    rw (lf, ls, ef, es) at r

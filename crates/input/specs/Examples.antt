@@ -29,7 +29,7 @@ abbrev pub P1-read : ℕ → Outcome
 unfolding text
 P1-read strand =
     record {
-      answer = record { number = 0; line = 0; settings = settings 2 2 8 0 strand; first = 5; second = 5 };
+      answer = record { number = 0; line = 0; settings = settings 2 2 8 0 strand 0; first = 5; second = 5 };
       first = text "ACCGT";
       second = text "ACGGT";
     }

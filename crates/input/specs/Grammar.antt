@@ -12,7 +12,7 @@ use Rattle.input.specs.declared.InputRead.{InputRead}
 use Rattle.input.specs.Lines.{linesOf}
 
 unfoldable pub noSettings : Settings
-noSettings = settings 0 0 0 0 0
+noSettings = settings 0 0 0 0 0 0
 
 unfoldable pub nothingYet : Progress
 unfolding noSettings

@@ -42,6 +42,7 @@ fn no_settings() -> Settings
         a: 0,
         m: 0,
         strand: 0,
+        mask: 0,
     }
 }
 

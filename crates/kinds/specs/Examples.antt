@@ -17,7 +17,7 @@ use Rattle.kinds.specs.declared.Refused.{Refused}
 use Rattle.kinds.specs.Kinds.{jobFits, jobLine, pieceLine, endLine, entryFits, entryLine, reverseLine, doneFits, doneLine, refusedFits, refusedLine}
 
 abbrev P1-settings : ℕ → ℕ → Settings
-P1-settings k strand = settings k 2 8 0 strand
+P1-settings k strand = settings k 2 8 0 strand 0
 
 abbrev pub entry : ℕ → Entry
 entry weight = record { first = record { start = 1; end = 5 }; second = record { start = 1; end = 5 }; weight = weight }
@@ -129,12 +129,15 @@ refused answers number sequence detail =
 abbrev pub writing-rows : List Row
 writing-rows =
     -- "a value does not fit its field": each at its field's end, and one past it
-    job exactly (settings 255 65535 65535 65535 255)
-    ∷ job refuses (settings 256 65535 65535 65535 255)
-    ∷ job refuses (settings 255 65536 65535 65535 255)
-    ∷ job refuses (settings 255 65535 65536 65535 255)
-    ∷ job refuses (settings 255 65535 65535 65536 255)
-    ∷ job refuses (settings 255 65535 65535 65535 256)
+    job exactly (settings 255 65535 65535 65535 255 0)
+    ∷ job refuses (settings 256 65535 65535 65535 255 0)
+    ∷ job refuses (settings 255 65536 65535 65535 255 0)
+    ∷ job refuses (settings 255 65535 65536 65535 255 0)
+    ∷ job refuses (settings 255 65535 65535 65536 255 0)
+    ∷ job refuses (settings 255 65535 65535 65535 256 0)
+    -- CR 5: a job whose masked letters break k-mers has no frame
+    ∷ job refuses (settings 2 2 8 0 0 1)
+    ∷ job refuses (settings 2 2 8 0 1 4294967295)
     ∷ of-strand exactly entryLine 65535 65535 65535 65535 65535
     ∷ of-strand refuses entryLine 65536 65535 65535 65535 65535
     ∷ of-strand refuses entryLine 65535 65536 65535 65535 65535
@@ -160,7 +163,7 @@ writing-rows =
     ∷ piece exactly 2 (1 ∷ 15 ∷ [])
     ∷ piece refuses 2 (1 ∷ 16 ∷ [])
     -- "the slice is shorter than the line with its line feed"
-    ∷ job short (settings 2 2 8 0 0)
+    ∷ job short (settings 2 2 8 0 0 0)
     ∷ piece short 1 (replicate 128 15)
     ∷ short true endLine
     ∷ exactly true endLine

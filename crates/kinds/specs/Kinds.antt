@@ -1,4 +1,4 @@
--- Document 01, "Frames", with document 02's CR 1: the table of kinds, which is in hexadecimal (10 is 16, 11 is 17, 12 is 18 and 1F is 31), and when "a
+-- Document 01, "Frames", with document 02's CR 1 and CR 5: the table of kinds, which is in hexadecimal (10 is 16, 11 is 17, 12 is 18 and 1F is 31), and when "a
 -- value does not fit its field". Assumes nothing.
 use mathlib.Core.Bool.{Bool, cond, _&&_}
 use mathlib.Core.List.{List, [], _++_}
@@ -22,8 +22,9 @@ unfoldable pub jobPayload : Settings → List ℕ
 unfolding jobNumbers numberBytes
 jobPayload c = jobNumbers c ++ cond (eqb (c .strand) 0) [] (numberBytes 1 (c .strand))
 
+-- CR 5: "Frames carry capitals only, so a job frame means setting 0": a job under another mask setting has none
 unfoldable pub jobFits : Settings → Bool
-jobFits c = ltb (c .k) 256 && ltb (c .b) 65536 && ltb (c .a) 65536 && ltb (c .m) 65536 && ltb (c .strand) 256
+jobFits c = ltb (c .k) 256 && ltb (c .b) 65536 && ltb (c .a) 65536 && ltb (c .m) 65536 && ltb (c .strand) 256 && ltb (c .mask) 1
 
 unfoldable pub jobLine : Settings → List ℕ
 unfolding lineOf jobPayload

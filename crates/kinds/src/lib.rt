@@ -39,11 +39,16 @@ pub struct Refused {
     pub detail: u64,
 }
 
-// Whether each number of a job fits its field: a byte for k and for the strand, two for the others.
+// Whether each number of a job fits its field: a byte for k and for the strand, two for the others. The mask has none, so that it has to be 0.
 pub fn job_fits(job: Settings) -> bool
     ensures { λ r. ⌜ r ≡ jobFits job ⌝ }
 {
-    (job.k < 256) & (job.b < 65536) & (job.a < 65536) & (job.m < 65536) & (job.strand < 256)
+    (job.k < 256)
+        & (job.b < 65536)
+        & (job.a < 65536)
+        & (job.m < 65536)
+        & (job.strand < 256)
+        & (job.mask < 1)
 }
 
 // A forward job leaves its strand out.

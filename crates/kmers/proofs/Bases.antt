@@ -1,14 +1,31 @@
--- The two bits of a letter are those of its base, and the letter that they belong to is itself only where it is a base: one test that antt computes
--- over all 256 bytes says so. Assumes nothing.
-use mathlib.Core.Path.{_≡_}
+-- The two bits of a letter are those of the base that it stands for, and the letter that they belong to is itself, as far as is seen, only where it stands
+-- for a base: one test that antt computes over all 256 bytes says so, under either mask setting. Assumes nothing.
+use mathlib.Core.Path.{_≡_, refl, sym, ap, _∙_}
 use mathlib.Core.Bool.{Bool, cond}
-use Prim.Native.Nat.{ℕ, _*_, _/_, _^_, _<_}
+use mathlib.Core.List.{List}
+use Prim.Native.Nat.{ℕ, zero, suc, _*_, _/_, _^_, _<_}
+use native.Mathlib.Omega.{arith}
 use lib.Bits.{bitAnd, bitXor}
 use lib.Dec.{eqb, ltb, eqb→eq}
+use lib.ListN.{getD}
 use borrow.Author.Tests.{eq-eqb, ne-eqb, ltb-true}
+use Rattle.rules.specs.Letters.{standsFor, asRead}
 use Rattle.rules.specs.Places.{baseOf}
 use Rattle.rules.proofs.Computed.{at-each}
+use Rattle.rules.proofs.Masks.{read-at}
+use Rattle.kmers.specs.Reading.{seesOf}
 use Rattle.rules.proofs.Tests.{T-true}
+
+-- the bits that are looked at
+pub sees-most : (mask : ℕ) → mask ≡ 0 → 223 ≡ seesOf mask
+unfolding seesOf
+sees-most zero e = refl
+sees-most (suc m) e = absurd (omega arith)
+
+pub sees-all : (mask : ℕ) → (mask ≡ 0 → ⊥) → 255 ≡ seesOf mask
+unfolding seesOf
+sees-all zero n = absurd (n refl)
+sees-all (suc m) n = refl
 
 -- the two bits
 unfoldable pub twoOf : ℕ → ℕ
@@ -19,17 +36,18 @@ unfoldable pub baseWith : ℕ → ℕ
 unfolding twoOf
 baseWith x = bitAnd (1413956417 / 2 ^ (8 * twoOf x)) 255
 
--- the two bits, 4 where they belong to another letter
-unfoldable looked : ℕ → ℕ
+-- the two bits, 4 where they belong to another letter, as far as is seen
+unfoldable looked : ℕ → ℕ → ℕ
 unfolding twoOf baseWith
-looked x = cond (eqb x (baseWith x)) (twoOf x) 4
+looked sees x = cond (eqb (bitAnd x sees) (baseWith x)) (twoOf x) 4
 
-right : ℕ → Bool
-right x = eqb (looked x) (baseOf x)
+right : ℕ → ℕ → ℕ → Bool
+right sees mask x = eqb (looked sees x) (baseOf (standsFor mask x))
 
-looked-right : (x : ℕ) → x < 256 → looked x ≡ baseOf x
-unfolding looked right baseOf
-looked-right x h = eqb→eq (looked x) (baseOf x) (at-each right 256 tt x h)
+looked-right : (mask x : ℕ) → x < 256 → looked (seesOf mask) x ≡ baseOf (standsFor mask x)
+unfolding looked right baseOf standsFor seesOf
+looked-right zero x h = eqb→eq (looked 223 x) (baseOf (standsFor 0 x)) (at-each (right 223 0) 256 tt x h)
+looked-right (suc m) x h = eqb→eq (looked 255 x) (baseOf (standsFor (suc m) x)) (at-each (right 255 (suc m)) 256 tt x h)
 
 module _ (x : ℕ) (h : x < 256) where
   pub two-low : twoOf x < 4
@@ -40,10 +58,18 @@ module _ (x : ℕ) (h : x < 256) where
   unfolding baseWith
   with-low = ltb-true (baseWith x) 256 (T-true (ltb (baseWith x) 256) (at-each (λ y. ltb (baseWith y) 256) 256 tt x h))
 
-  pub base-is : x ≡ baseWith x → twoOf x ≡ baseOf x
-  unfolding looked
-  base-is e = rw (eq-eqb x (baseWith x) e) at (looked-right x h)
+  module _ (mask : ℕ) {sees : ℕ} (e : sees ≡ seesOf mask) where
+    looked-is : looked sees x ≡ baseOf (standsFor mask x)
+    looked-is = ap (λ (n : ℕ). looked n x) e ∙ looked-right mask x h
 
-  pub base-none : (x ≡ baseWith x → ⊥) → 4 ≡ baseOf x
-  unfolding looked
-  base-none n = rw (ne-eqb x (baseWith x) n) at (looked-right x h)
+    pub base-is : bitAnd x sees ≡ baseWith x → twoOf x ≡ baseOf (standsFor mask x)
+    unfolding looked
+    base-is z = rw (eq-eqb (bitAnd x sees) (baseWith x) z) at looked-is
+
+    pub base-none : (bitAnd x sees ≡ baseWith x → ⊥) → 4 ≡ baseOf (standsFor mask x)
+    unfolding looked
+    base-none n = rw (ne-eqb (bitAnd x sees) (baseWith x) n) at looked-is
+
+-- a letter of a sequence as it is read
+pub base-read : (mask : ℕ) (s : List ℕ) (n : ℕ) {b : ℕ} → b ≡ baseOf (standsFor mask (getD s n 0)) → b ≡ baseOf (getD (asRead mask s) n 0)
+base-read mask s n e = e ∙ ap baseOf (sym (read-at mask s n))

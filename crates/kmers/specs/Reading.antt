@@ -1,12 +1,17 @@
 -- What is read at a place, in the words of document 01. Assumes nothing.
 use mathlib.Core.Bool.{cond}
 use mathlib.Core.List.{List, [], _∷_}
-use Prim.Native.Nat.{ℕ, suc, _+_, _-_, _<_, _≤_}
+use Prim.Native.Nat.{ℕ, zero, suc, _+_, _-_, _<_, _≤_}
 use lib.Dec.{ltb}
 use lib.ListN.{getD}
 use Rattle.rules.specs.Places.{baseOf, allBases, lettersAt, packed}
 use Rattle.kmers.specs.declared.Kmer.{Kmer}
 use Rattle.kmers.specs.declared.Kmer.the-variants.{Code, Break}
+
+-- the bits of a letter that are looked at under a mask setting: all but bit 5, which lower case has and its capital has not, or all
+unfoldable pub seesOf : ℕ → ℕ
+seesOf zero = 223
+seesOf (suc n) = 255
 
 -- how many letters stand before the first that is no base
 unfoldable pub firstBreak : List ℕ → ℕ

@@ -1,42 +1,13 @@
--- Shifts and masks reverse the four bits of every byte, since antt computes both at all 256 of them; and letter by letter from the end they turn a
--- sequence. Assumes nothing.
+-- Letter by letter from the end, complements turn a sequence. Assumes nothing.
 use mathlib.Core.Path.{_≡_, ap, _∙_}
-use mathlib.Core.Bool.{Bool}
 use mathlib.Core.List.{List, _∷_, _++_}
-use Prim.Native.Nat.{ℕ, suc, _+_, _-_, _*_, _/_, _%_, _≤_, _<_}
+use Prim.Native.Nat.{ℕ, suc, _+_, _-_, _≤_, _<_}
 use native.Mathlib.Omega.{arith}
 use native.Mathlib.Numerals.{add-one}
-use lib.Bits.{bitAnd, bitOr}
-use lib.Dec.{eqb, eqb→eq}
 use lib.ListN.{length, getD, drop, set, length-append, length-drop, drop-of-length-le}
 use lib.Seq.{drop-cons, set-at, append-snoc}
-use Rattle.rules.specs.Letters.{letterTable, letterOf, codeOf, reversedBits, complement, reverseComplement}
-use Rattle.rules.proofs.Computed.{at-each}
-use Rattle.rules.proofs.Letters.{code-small, reversed-small}
+use Rattle.rules.specs.Letters.{complement, reverseComplement}
 use Rattle.rules.proofs.Strands.{turned-length}
-
--- ---- the four bits of a code
-
-unfoldable pub shifted : ℕ → ℕ
-shifted code = bitOr (bitOr (bitOr (bitAnd code 1 * 8 % 256) (bitAnd code 2 * 2 % 256)) (bitAnd (code / 2) 2)) (bitAnd (code / 8) 1)
-
-right : ℕ → Bool
-right code = eqb (shifted code) (reversedBits code)
-
-pub bits-right : (code : ℕ) → code < 256 → shifted code ≡ reversedBits code
-unfolding shifted right reversedBits
-bits-right code h = eqb→eq (shifted code) (reversedBits code) (at-each right 256 tt code h)
-
-module _ (x : ℕ) {code bits : ℕ} (ec : code ≡ codeOf x) (eb : bits ≡ reversedBits code) where
-  pub bits-small : bits < 16
-  bits-small = let h = reversed-small code (let g = code-small x in omega arith) in omega arith
-
-  -- the letter of the reversed bits
-  pub complement-read : {letters : List ℕ} → letters ≡ letterTable → getD letters bits 0 ≡ complement x
-  unfolding complement letterOf
-  complement-read e = rw (e, eb, ec)
-
--- ---- a sequence from its end
 
 -- the last n letters stand turned in front of the slice, and behind them what was there
 pub record Turning (s old out : List ℕ) (n : ℕ) : Type 0 where

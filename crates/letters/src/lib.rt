@@ -1,29 +1,36 @@
-// The fifteen letters, their codes and their complements.
+// The fifteen letters, in capitals or masked, their codes and their complements.
+use rules::Letter;
 ghost use mathlib.Core.Path.{_≡_};
 ghost use mathlib.Core.List.{_++_};
 ghost use Prim.Native.Nat.{_≤_};
 ghost use lib.ListN.{length, drop};
-ghost use Rattle.rules.specs.Letters.{letterTable, letterOf, codeOf, badPlace, reversedBits, complement, reverseComplement};
-ghost use Rattle.letters.specs.Capitals.{capitalCodes};
+ghost use Rattle.rules.specs.Letters.{letterOf, readLetter, codeOf, badPlace, complement, reverseComplement};
+ghost use Rattle.letters.specs.Capitals.{capitalCodes, capitalComplements, atCapital};
+
+// The bit that lower case has and its capital has not.
+const MASK: u8 = 0x20;
+
+// All others. The highest is among them, so that no byte above 127 becomes a letter.
+const UNMASKED: u8 = 0xDF;
 
 // The letter of each code. Code 0 has none.
 const LETTERS: [u8; 16] = [
     0,
-    b'A',
-    b'C',
-    b'M',
-    b'G',
-    b'R',
-    b'S',
-    b'V',
-    b'T',
-    b'W',
-    b'Y',
-    b'H',
-    b'K',
-    b'D',
-    b'B',
-    b'N',
+    b'A', // 1
+    b'C', // 2
+    b'M', // 3
+    b'G', // 4
+    b'R', // 5
+    b'S', // 6
+    b'V', // 7
+    b'T', // 8
+    b'W', // 9
+    b'Y', // 10
+    b'H', // 11
+    b'K', // 12
+    b'D', // 13
+    b'B', // 14
+    b'N', // 15
 ];
 
 // The code of each capital from A to Z, 0 where it is none of the fifteen.
@@ -56,6 +63,36 @@ const CODES: [u8; 26] = [
     0, // Z
 ];
 
+// The complement of each capital from A to Z, 0 where it is none of the fifteen.
+const COMPLEMENTS: [u8; 26] = [
+    b'T', // of A
+    b'V', // of B
+    b'G', // of C
+    b'H', // of D
+    0, // of E
+    0, // of F
+    b'C', // of G
+    b'D', // of H
+    0, // of I
+    0, // of J
+    b'M', // of K
+    0, // of L
+    b'K', // of M
+    b'N', // of N
+    0, // of O
+    0, // of P
+    0, // of Q
+    b'Y', // of R
+    b'S', // of S
+    b'A', // of T
+    0, // of U
+    b'B', // of V
+    b'W', // of W
+    0, // of X
+    b'R', // of Y
+    0, // of Z
+];
+
 // The letter of a code, 0 where it has none.
 pub fn letter(code: u8) -> u8
     ensures { λ r. ⌜ r ≡ letterOf code ⌝ }
@@ -63,26 +100,52 @@ pub fn letter(code: u8) -> u8
     if code < 16 { LETTERS[code as usize] } else { 0 }
 }
 
-// The code of a byte, 0 where it is no letter.
-pub fn code(letter: u8) -> u8
-    ensures { λ r. ⌜ r ≡ codeOf letter ⌝ }
+// The code of a byte, masked or not; 0 where it is no letter.
+pub fn code(byte: u8) -> u8
+    ensures { λ r. ⌜ r ≡ codeOf byte ⌝ }
 {
     let codes = CODES;
-    code_in(&codes, letter)
+    at_capital(&codes, byte & UNMASKED)
 }
 
-// The code of a byte, read in a table that the caller laid out: a constant is laid out anew at every read.
-fn code_in(codes: &[u8; 26], letter: u8) -> u8
-    requires { ⌜ now codes ≡ capitalCodes ⌝ }
-    ensures { λ r. ⌜ r ≡ codeOf letter ⌝ }
+// A byte as it is read.
+pub fn read_letter(byte: u8) -> Letter
+    ensures { λ r. ⌜ r ≡ readLetter byte ⌝ }
 {
-    if letter < b'A' {
+    let codes = CODES;
+    read_in(&codes, byte)
+}
+
+// What a table of the capitals from A to Z has for a byte, 0 for one that is none of them. The caller laid the table out: a constant is laid out anew at
+// every read.
+fn at_capital(table: &[u8; 26], byte: u8) -> u8
+    ensures { λ r. ⌜ r ≡ atCapital (now (table .entry)) byte ⌝ }
+{
+    if byte < b'A' {
         return 0;
     }
-    if b'Z' < letter {
+    if b'Z' < byte {
         return 0;
     }
-    codes[(letter - b'A') as usize]
+    table[(byte - b'A') as usize]
+}
+
+// A byte as it is read, in the table of codes.
+fn read_in(codes: &[u8; 26], byte: u8) -> Letter
+    requires { ⌜ now codes ≡ capitalCodes ⌝ }
+    ensures { λ r. ⌜ r ≡ readLetter byte ⌝ }
+{
+    let capital = byte & UNMASKED;
+    if at_capital(codes, capital) == 0 {
+        return Letter {
+            capital: 0,
+            masked: false,
+        };
+    }
+    Letter {
+        capital,
+        masked: capital < byte,
+    }
 }
 
 // The first place, counted from 1, whose letter is none of the fifteen; 0 where there is no such place.
@@ -92,7 +155,7 @@ pub fn bad_place(s: &[u8]) -> usize
     let codes = CODES;
     let mut passed: usize = 0;
     while passed < s.len() {
-        if code_in(&codes, s[passed]) == 0 {
+        if read_in(&codes, s[passed]).capital == 0 {
             return passed + 1;
         }
         passed += 1;
@@ -100,32 +163,27 @@ pub fn bad_place(s: &[u8]) -> usize
     0
 }
 
-// The complement of a code: its four bits in reverse order.
-pub fn reversed_bits(code: u8) -> u8
-    ensures { λ r. ⌜ r ≡ reversedBits code ⌝ }
+// The complement of a letter, masked where the letter is; 0 of a byte that is none. Read in the table of complements.
+fn complement_in(complements: &[u8; 26], byte: u8) -> u8
+    requires { ⌜ now complements ≡ capitalComplements ⌝ }
+    ensures { λ r. ⌜ r ≡ complement byte ⌝ }
 {
-    ((code & 1) << 3) | ((code & 2) << 1) | ((code >> 1) & 2) | ((code >> 3) & 1)
+    let turned = at_capital(complements, byte & UNMASKED);
+    if turned == 0 {
+        return 0;
+    }
+    turned | (byte & MASK)
 }
 
-// The complement of a letter, 0 of a byte that is none, read in tables that the caller laid out.
-fn complement_in(codes: &[u8; 26], letters: &[u8; 16], letter: u8) -> u8
-    requires { ⌜ now codes ≡ capitalCodes ⌝ }
-    requires { ⌜ now letters ≡ letterTable ⌝ }
-    ensures { λ r. ⌜ r ≡ complement letter ⌝ }
-{
-    letters[reversed_bits(code_in(codes, letter)) as usize]
-}
-
-// Writes the reverse complement of a sequence in front of a lent slice. One step a letter.
+// Writes the reverse complement of a sequence, masks kept, in front of a lent slice. One step a letter.
 pub fn reverse_complement(s: &[u8], out: &mut [u8])
     requires { ⌜ length (now s) ≤ length (now out) ⌝ }
     ensures { λ _. ⌜ now (out .exit) ≡ reverseComplement (now (s .entry)) ++ drop (length (now (s .entry))) (now (out .entry)) ⌝ }
 {
-    let codes = CODES;
-    let letters = LETTERS;
+    let complements = COMPLEMENTS;
     let mut turned: usize = 0;
     while turned < s.len() {
-        out[turned] = complement_in(&codes, &letters, s[s.len() - 1 - turned]);
+        out[turned] = complement_in(&complements, s[s.len() - 1 - turned]);
         turned += 1;
     }
 }

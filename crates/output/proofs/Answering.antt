@@ -10,12 +10,14 @@ use lib.ListN.{length, getD, drop, replicate, length-append, length-drop, length
 use Rattle.rules.specs.declared.Settings.{Settings}
 use Rattle.rules.specs.declared.Answer.{Answer}
 use Rattle.rules.specs.Lists.{laid, thenZeros}
+use Rattle.rules.specs.Letters.{asRead}
 use Rattle.rules.specs.Rooms.{workHolds, listHolds}
 use Rattle.rules.specs.Strands.{entries, matchSum, largerNeed, linkSum}
 use Rattle.rules.specs.Answers.{Outcome, left, refusal, done, zeroed, checked, compared}
 use Rattle.rules.proofs.ListLaws.{mem-at}
 use Rattle.rules.proofs.Strands.{entry-size, entries-size}
-use Rattle.refusals.proofs.Checking.{accepted}
+use Rattle.refusals.specs.Accepted.{Accepted}
+use Rattle.refusals.proofs.Checking.{accepted, read-accepted}
 use Rattle.compare.proofs.Demands.{Compared, refused, no-work-room, no-list-room, listed, demand-1}
 use Rattle.lines.specs.declared.Written.{Written}
 use Rattle.lines.specs.Writing.{inFront, written, leaves}
@@ -114,6 +116,16 @@ unfolding zeroed refusal
 room-small n d work list a b = record { number = a; sequence = omega arith; detail = b }
 
 module _ (c : Settings) (s t : List ℕ) where
+  -- both sequences as they are read
+  abbrev s′ : List ℕ
+  s′ = asRead (c .mask) s
+
+  abbrev t′ : List ℕ
+  t′ = asRead (c .mask) t
+
+  accepted-read : checked c s t .number ≡ 0 → Accepted c s′ t′
+  accepted-read z = read-accepted (c .mask) (accepted c s t z)
+
   abbrev work : List ℕ
   work = replicate 4096 0
 
@@ -138,21 +150,21 @@ module _ (c : Settings) (s t : List ℕ) where
       go : Compared c s t work list → Small x
       go (refused f q) = subst⁻¹ Small (e ∙ ap (λ (y : Outcome). y .answer) q) (checked-small c s t)
       go (no-work-room z f q) =
-          let few = need-few c s t (accepted c s t z) in
-          subst⁻¹ Small (e ∙ ap (λ (y : Outcome). y .answer) q) (room-small 7 (largerNeed c s t) work list (omega arith) (omega arith))
+          let few = need-few c s′ t′ (accepted-read z) in
+          subst⁻¹ Small (e ∙ ap (λ (y : Outcome). y .answer) q) (room-small 7 (largerNeed c s′ t′) work list (omega arith) (omega arith))
       go (no-list-room z f g q) =
-          let few = entries-few c s t (accepted c s t z) in
-          subst⁻¹ Small (e ∙ ap (λ (y : Outcome). y .answer) q) (room-small 8 (length (entries c s t)) work list (omega arith) (omega arith))
+          let few = entries-few c s′ t′ (accepted-read z) in
+          subst⁻¹ Small (e ∙ ap (λ (y : Outcome). y .answer) q) (room-small 8 (length (entries c s′ t′)) work list (omega arith) (omega arith))
       go (listed z f g q) = absurd (h (ap (λ (y : Answer). y .number) (e ∙ ap (λ (y : Outcome). y .answer) q)))
 
   module _ {x : Answer} {work′ room : List ℕ} (o : left x work′ room ≡ compared c s t work list) (z : x .number ≡ 0) where
     -- what a job that is done leaves
     record Ends : Type 0 where
       pass : checked c s t .number ≡ 0
-      enough : largerNeed c s t ≤ workHolds work
-      few : length (entries c s t) ≤ listHolds list
-      answer : x ≡ done (length (entries c s t)) (matchSum c s t) (largerNeed c s t) (linkSum c s t)
-      written : room ≡ thenZeros (laid (λ entry. entry) (entries c s t)) (length list)
+      enough : largerNeed c s′ t′ ≤ workHolds work
+      few : length (entries c s′ t′) ≤ listHolds list
+      answer : x ≡ done (length (entries c s′ t′)) (matchSum c s′ t′) (largerNeed c s′ t′) (linkSum c s′ t′)
+      written : room ≡ thenZeros (laid (λ entry. entry) (entries c s′ t′)) (length list)
 
     ends : Ends
     unfolding zeroed refusal
@@ -165,39 +177,39 @@ module _ (c : Settings) (s t : List ℕ) where
         go (listed p f g q) =
             record { pass = p; enough = f; few = g; answer = ap (λ (y : Outcome). y .answer) (o ∙ q); written = ap (λ (y : Outcome). y .list) (o ∙ q) }
 
-    count-is : x .listed ≡ length (entries c s t)
+    count-is : x .listed ≡ length (entries c s′ t′)
     unfolding done
     count-is = ap (λ (y : Answer). y .listed) (ends .answer)
 
-    few-entries : length (entries c s t) ≤ 333
+    few-entries : length (entries c s′ t′) ≤ 333
     unfolding listHolds
     few-entries = let f = ends .few in omega (arith, length-replicate {A = ℕ} 2000 0)
 
     tail : List ℕ
-    tail = replicate (length list - length (laid (λ entry. entry) (entries c s t))) 0
+    tail = replicate (length list - length (laid (λ entry. entry) (entries c s′ t′))) 0
 
-    listed-room : room ≡ laid (λ entry. entry) (entries c s t) ++ tail
+    listed-room : room ≡ laid (λ entry. entry) (entries c s′ t′) ++ tail
     unfolding thenZeros tail
     listed-room = ends .written
 
     pub listing-output : listingLines room x ≡ jobOutput c s t
     unfolding listingLines jobOutput answerOf
     listing-output =
-        let lines : laid lineOfEntry (entriesIn room (x .listed)) ≡ laid lineOfEntry (entries c s t) =
+        let lines : laid lineOfEntry (entriesIn room (x .listed)) ≡ laid lineOfEntry (entries c s′ t′) =
         ap (λ (n : ℕ). laid lineOfEntry (entriesIn room n)) count-is
-        ∙ ap (laid lineOfEntry) (entries-back (entries c s t) (entry-size c s t) room tail listed-room) in
+        ∙ ap (laid lineOfEntry) (entries-back (entries c s′ t′) (entry-size c s′ t′) room tail listed-room) in
         rw (← answer-is o, eq-eqb (x .number) 0 z) (ap (λ (l : List ℕ). l ++ doneLine (doneOf x)) lines)
 
     fits-at : (n : ℕ) → n < x .listed → entryFits (entryOf (entryIn room n)) ≡ true
     fits-at n h =
-        let l : n < length (entries c s t) = omega (arith, count-is) in
-        ap (λ (e : List ℕ). entryFits (entryOf e)) (entry-there (entries c s t) (entry-size c s t) room tail listed-room n l)
-        ∙ entry-fits c s t (accepted c s t (ends .pass)) (getD (entries c s t) n []) (mem-at (entries c s t) n [] l)
+        let l : n < length (entries c s′ t′) = omega (arith, count-is) in
+        ap (λ (e : List ℕ). entryFits (entryOf e)) (entry-there (entries c s′ t′) (entry-size c s′ t′) room tail listed-room n l)
+        ∙ entry-fits c s′ t′ (accepted-read (ends .pass)) (getD (entries c s′ t′) n []) (mem-at (entries c s′ t′) n [] l)
 
     tallies-fit : doneFits (doneOf x) ≡ true
     unfolding doneFits doneOf workHolds done
     tallies-fit =
-        let m = match-sum-few c s t (accepted c s t (ends .pass)) in
+        let m = match-sum-few c s′ t′ (accepted-read (ends .pass)) in
         let w = ends .enough in
         let em = ap (λ (y : Answer). y .matches) (ends .answer) in
         let ew = ap (λ (y : Answer). y .widest) (ends .answer) in
@@ -208,7 +220,7 @@ module _ (c : Settings) (s t : List ℕ) where
         )
 
     room-long : 6 * x .listed ≤ length room
-    room-long = omega (arith, count-is, ap length listed-room, length-append (laid (λ entry. entry) (entries c s t)) tail, entries-size c s t)
+    room-long = omega (arith, count-is, ap length listed-room, length-append (laid (λ entry. entry) (entries c s′ t′)) tail, entries-size c s′ t′)
 
     pub listing-safe : (output : List ℕ) → 9038 ≤ length output → ListingSafe room output x
     listing-safe output h =

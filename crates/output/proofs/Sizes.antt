@@ -189,7 +189,8 @@ checked-small c s t =
     (line-small (outside 1 1024 (c .a)) 3 0 0 _ (omega arith) (omega arith) (λ _. omega arith)
     (line-small (outside 0 16384 (c .m)) 4 0 0 _ (omega arith) (omega arith) (λ _. omega arith)
     (line-small (outside 0 1 (c .strand)) 9 0 0 _ (omega arith) (omega arith) (λ _. omega arith)
+    (line-small (outside 0 1 (c .mask)) 10 0 0 _ (omega arith) (omega arith) (λ _. omega arith)
     (long-first s 1 _ (omega arith) (λ a.
     long-first t 2 _ (omega arith) (λ b.
     line-small (ltb 0 (badPlace s)) 6 1 (badPlace s) _ (omega arith) (omega arith) (bad-small s a)
-    (line-small (ltb 0 (badPlace t)) 6 2 (badPlace t) _ (omega arith) (omega arith) (bad-small t b) none))))))))
+    (line-small (ltb 0 (badPlace t)) 6 2 (badPlace t) _ (omega arith) (omega arith) (bad-small t b) none)))))))))

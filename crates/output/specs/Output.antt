@@ -8,6 +8,7 @@ use lib.ListN.{getD, replicate}
 use Rattle.rules.specs.declared.Settings.{Settings}
 use Rattle.rules.specs.declared.Answer.{Answer}
 use Rattle.rules.specs.Lists.{laid}
+use Rattle.rules.specs.Letters.{asRead}
 use Rattle.rules.specs.Strands.{entries}
 use Rattle.rules.specs.Answers.{compared}
 use Rattle.kinds.specs.declared.Entry.{Entry}
@@ -40,8 +41,10 @@ unfoldable pub answerOf : Settings → List ℕ → List ℕ → Answer
 unfolding compared
 answerOf c first second = compared c first second (replicate 4096 0) (replicate 2000 0) .answer
 
+-- CR 5: its entries are those of both sequences as they are read
 unfoldable pub jobOutput : Settings → List ℕ → List ℕ → List ℕ
-unfolding answerOf entries laid lineOfEntry doneLine doneOf refusedLine refusedOf
+unfolding answerOf entries asRead laid lineOfEntry doneLine doneOf refusedLine refusedOf
 jobOutput c first second =
     let x = answerOf c first second in
-    cond (eqb (x .number) 0) (laid lineOfEntry (entries c first second) ++ doneLine (doneOf x)) (refusedLine (refusedOf x))
+    cond (eqb (x .number) 0) (laid lineOfEntry (entries c (asRead (c .mask) first) (asRead (c .mask) second)) ++ doneLine (doneOf x))
+    (refusedLine (refusedOf x))

@@ -8,6 +8,7 @@ use lib.Dec.{ltb, lit<}
 use lib.ListN.{length, take, drop}
 use borrow.Author.Tests.{ltb-true, eq-eqb}
 use Rattle.rules.specs.declared.Settings.{Settings}
+use Rattle.rules.specs.Entered.{settings}
 use Rattle.decoding.specs.Digits.{bytesIn}
 use Rattle.lines.specs.Writing.{checkOf, frameOf, lineOf}
 use Rattle.decoding.proofs.Decoding.{and-left, and-right}
@@ -41,6 +42,7 @@ pub record JobFits (x : Settings) : Type 0 where
   pub a-fits : x .a < 65536
   pub m-fits : x .m < 65536
   pub strand-fits : x .strand < 256
+  pub no-mask : x .mask ≡ 0
 
 pub job-parts : (x : Settings) → jobFits x ≡ true → JobFits x
 unfolding jobFits
@@ -50,7 +52,9 @@ job-parts x h =
     let a = ltb (x .a) 65536 in
     let m = ltb (x .m) 65536 in
     let s = ltb (x .strand) 256 in
-    let kbam = and-left (k && b && a && m) s h in
+    let o = ltb (x .mask) 1 in
+    let kbams = and-left (k && b && a && m && s) o h in
+    let kbam = and-left (k && b && a && m) s kbams in
     let kba = and-left (k && b && a) m kbam in
     let kb = and-left (k && b) a kba in
     record {
@@ -58,7 +62,8 @@ job-parts x h =
       b-fits = ltb-true (x .b) 65536 (and-right k b kb);
       a-fits = ltb-true (x .a) 65536 (and-right (k && b) a kba);
       m-fits = ltb-true (x .m) 65536 (and-right (k && b && a) m kbam);
-      strand-fits = ltb-true (x .strand) 256 (and-right (k && b && a && m) s h);
+      strand-fits = ltb-true (x .strand) 256 (and-right (k && b && a && m) s kbams);
+      no-mask = (let l = ltb-true (x .mask) 1 (and-right (k && b && a && m && s) o h) in omega arith);
     }
 
 -- the first four numbers stand where they do whatever comes behind them, and the strand is as the size says
@@ -71,7 +76,7 @@ numbers-back x size rest p s =
     let b : numberAt f 3 2 ≡ x .b = number-back (take 3 f) (drop 5 f) 2 (x .b) (p .b-fits) in
     let a : numberAt f 5 2 ≡ x .a = number-back (take 5 f) (drop 7 f) 2 (x .a) (p .a-fits) in
     let m : numberAt f 7 2 ≡ x .m = number-back (take 7 f) (drop 9 f) 2 (x .m) (p .m-fits) in
-    rw (k, b, a, m, s)
+    rw (k, b, a, m, s) (λ i. settings (x .k) (x .b) (x .a) (x .m) (x .strand) (sym (p .no-mask) i))
 
 -- a job of either size gives its settings back
 pub job-frame : (x : Settings) → jobFits x ≡ true → jobIn (length (jobPayload x)) (frameOf 1 (jobPayload x)) ≡ x

@@ -23,11 +23,11 @@ unfoldable pub strandIn : ℕ → List ℕ → ℕ
 unfolding numberAt
 strandIn size bytes = cond (eqb size 8) (numberAt bytes 9 1) 0
 
--- a job of so many payload bytes
+-- a job of so many payload bytes. CR 5: "a job frame means setting 0"
 unfoldable pub jobIn : ℕ → List ℕ → Settings
 unfolding numberAt strandIn
 jobIn size bytes =
-    settings (numberAt bytes 2 1) (numberAt bytes 3 2) (numberAt bytes 5 2) (numberAt bytes 7 2) (strandIn size bytes)
+    settings (numberAt bytes 2 1) (numberAt bytes 3 2) (numberAt bytes 5 2) (numberAt bytes 7 2) (strandIn size bytes) 0
 
 unfoldable pub entryIn : List ℕ → Entry
 unfolding numberAt

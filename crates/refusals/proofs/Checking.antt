@@ -10,10 +10,11 @@ use lib.Dec.{T, ltb}
 use lib.ListN.{length}
 use Rattle.rules.specs.declared.Settings.{Settings}
 use Rattle.rules.specs.declared.Answer.{Answer}
-use Rattle.rules.specs.Letters.{badPlace, reverseComplement}
+use Rattle.rules.specs.Letters.{badPlace, reverseComplement, asRead}
 use Rattle.rules.specs.Answers.{Line, on, firstOf, refusal, outside, settingsChecks, lengthCheck, lengthChecks, letterCheck, letterChecks, checks, given, checked}
 use Rattle.rules.proofs.Tests.{tests, tested}
 use Rattle.rules.proofs.Strands.{turned-length}
+use Rattle.rules.proofs.Masks.{read-length}
 use Rattle.refusals.specs.Accepted.{Accepted}
 
 -- outside by the first test or by the second
@@ -70,7 +71,8 @@ unfolding settingsChecks
 settings-refuse c =
     refusing _ 1 0 0 (λ z. omega arith)
     (refusing _ 2 0 0 (λ z. omega arith)
-    (refusing _ 3 0 0 (λ z. omega arith) (refusing _ 4 0 0 (λ z. omega arith) (refusing _ 9 0 0 (λ z. omega arith) none-left))))
+    (refusing _ 3 0 0 (λ z. omega arith)
+    (refusing _ 4 0 0 (λ z. omega arith) (refusing _ 9 0 0 (λ z. omega arith) (refusing _ 10 0 0 (λ z. omega arith) none-left)))))
 
 pub length-refuses : (sequence letters : ℕ) → Refusing (lengthCheck sequence letters ∷ [])
 unfolding lengthCheck
@@ -132,7 +134,8 @@ accepted c first second e =
     let n3 = number-of (outside 1 1024 (c .a)) 3 0 0 _ (n2 .1) (λ z. omega arith) in
     let n4 = number-of (outside 0 16384 (c .m)) 4 0 0 _ (n3 .1) (λ z. omega arith) in
     let n9 = number-of (outside 0 1 (c .strand)) 9 0 0 _ (n4 .1) (λ z. omega arith) in
-    let n5 = number-of (ltb 16384 (length first)) 5 1 0 _ (n9 .1) (λ z. omega arith) in
+    let n10 = number-of (outside 0 1 (c .mask)) 10 0 0 _ (n9 .1) (λ z. omega arith) in
+    let n5 = number-of (ltb 16384 (length first)) 5 1 0 _ (n10 .1) (λ z. omega arith) in
     let n6 = number-of (ltb 16384 (length second)) 5 2 0 _ (n5 .1) (λ z. omega arith) in
     let k = inside 1 31 (c .k) (n1 .0) in
     record {
@@ -143,22 +146,29 @@ accepted c first second e =
       short-second = ltb-false _ _ (n6 .0);
     }
 
--- the turned sequence is as long, so it is accepted where the other is
-pub turned-accepted : {c : Settings} {s t : List ℕ} → Accepted c s t → Accepted c s (reverseComplement t)
-turned-accepted {t = t} ok =
+-- sequences that are as long are accepted where the others are: the turned one, and both as they are read
+as-long : {c : Settings} {s t u v : List ℕ} → length u ≡ length s → length v ≡ length t → Accepted c s t → Accepted c u v
+as-long e f ok =
     record {
       some-base = ok .some-base;
       few-bases = ok .few-bases;
       one-or-both = ok .one-or-both;
-      short-first = ok .short-first;
-      short-second = (let h = ok .short-second in omega (arith, turned-length t));
+      short-first = (let h = ok .short-first in omega arith);
+      short-second = (let h = ok .short-second in omega arith);
     }
 
--- ---- the numbers of the refusals that need no room: 1 to 6, or 9, so neither 7 nor 8
+pub turned-accepted : {c : Settings} {s t : List ℕ} → Accepted c s t → Accepted c s (reverseComplement t)
+turned-accepted {t = t} = as-long refl (turned-length t)
+
+pub read-accepted : {c : Settings} {s t : List ℕ} (mask : ℕ) → Accepted c s t → Accepted c (asRead mask s) (asRead mask t)
+read-accepted {s = s} {t = t} mask = as-long (read-length mask s) (read-length mask t)
+
+-- ---- the numbers of the refusals that need no room: 1 to 6, 9 or 10, so neither 7 nor 8
 
 pub data Early (n : ℕ) : Type 0 where
   before-7 : n ≤ 6 → Early n
   is-9 : n ≡ 9 → Early n
+  is-10 : n ≡ 10 → Early n
 
 few : (t : Bool) (n q d : ℕ) (a : Answer) → Early n → Early (a .number) → Early (cond t (refusal n q d) a .number)
 unfolding refusal
@@ -173,20 +183,23 @@ number-early c first second =
     (few (outside 1 1024 (c .a)) 3 0 0 _ (before-7 (omega arith))
     (few (outside 0 16384 (c .m)) 4 0 0 _ (before-7 (omega arith))
     (few (outside 0 1 (c .strand)) 9 0 0 _ (is-9 refl)
+    (few (outside 0 1 (c .mask)) 10 0 0 _ (is-10 refl)
     (few (ltb 16384 (length first)) 5 1 0 _ (before-7 (omega arith))
     (few (ltb 16384 (length second)) 5 2 0 _ (before-7 (omega arith))
     (few (ltb 0 (badPlace first)) 6 1 (badPlace first) _ (before-7 (omega arith))
-    (few (ltb 0 (badPlace second)) 6 2 (badPlace second) (refusal 0 0 0) (before-7 (omega arith)) (before-7 (omega arith))))))))))
+    (few (ltb 0 (badPlace second)) 6 2 (badPlace second) (refusal 0 0 0) (before-7 (omega arith)) (before-7 (omega arith)))))))))))
 
-early-small : {n : ℕ} → Early n → n ≤ 9
+early-small : {n : ℕ} → Early n → n ≤ 10
 early-small (before-7 h) = omega arith
 early-small (is-9 e) = omega arith
+early-small (is-10 e) = omega arith
 
 early-not : {n : ℕ} → Early n → (n ≡ 7 → ⊥) × (n ≡ 8 → ⊥)
 early-not (before-7 h) = (λ e. omega arith, λ e. omega arith)
 early-not (is-9 e) = (λ d. omega arith, λ d. omega arith)
+early-not (is-10 e) = (λ d. omega arith, λ d. omega arith)
 
-pub number-small : (c : Settings) (first second : List ℕ) → checked c first second .number ≤ 9
+pub number-small : (c : Settings) (first second : List ℕ) → checked c first second .number ≤ 10
 number-small c first second = early-small (number-early c first second)
 
 pub no-room-number : (c : Settings) (first second : List ℕ) → (checked c first second .number ≡ 7 → ⊥) × (checked c first second .number ≡ 8 → ⊥)

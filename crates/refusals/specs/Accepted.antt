@@ -1,4 +1,4 @@
--- What checks 1 to 6 and 9 leave of a job's settings and lengths. Assumes nothing.
+-- What checks 1 to 6, 9 and 10 leave of a job's settings and lengths. Assumes nothing.
 use mathlib.Core.List.{List}
 use Prim.Native.Nat.{ℕ, _≤_}
 use lib.ListN.{length}

@@ -14,7 +14,7 @@ fn is_outside(low: u32, high: u32, n: u32) -> bool
     high < n
 }
 
-// 1 to 4, then 9.
+// 1 to 4, then 9 and 10.
 pub fn check_settings(c: Settings) -> Answer
     ensures { λ r. ⌜ r ≡ given (settingsChecks c) ⌝ }
 {
@@ -32,6 +32,9 @@ pub fn check_settings(c: Settings) -> Answer
     }
     if is_outside(0, 1, c.strand) {
         return answers::refuse(9, 0, 0);
+    }
+    if is_outside(0, 1, c.mask) {
+        return answers::refuse(10, 0, 0);
     }
     answers::refuse(0, 0, 0)
 }
@@ -57,7 +60,7 @@ pub fn check_letters(sequence: u64, s: &[u8]) -> Answer
     answers::refuse(0, 0, 0)
 }
 
-// 1 to 6, with 9 after 4: the first that applies.
+// 1 to 6, with 9 and 10 after 4: the first that applies.
 pub fn check(c: Settings, first: &[u8], second: &[u8]) -> Answer
     ensures { λ r. ⌜ r ≡ checked c (now (first .entry)) (now (second .entry)) ⌝ }
 {

@@ -18,4 +18,5 @@ pub mod Farther
 pub mod Maximal
 pub mod Strands
 pub mod Outcomes
+pub mod Masks
 pub mod Theorems

@@ -10,7 +10,7 @@ use lib.Dec.{T, eqb}
 use lib.ListN.{length, take, drop, length-append, length-map, length-take, length-drop, take-append-drop}
 use lib.Seq.{take-at, drop-at}
 use Rattle.rules.specs.declared.Settings.{Settings}
-use Rattle.rules.specs.Entered.{forward, both}
+use Rattle.rules.specs.Entered.{settings}
 use Rattle.rules.specs.Lists.{largestOf, laid}
 use Rattle.rules.specs.Letters.{codeOf, complement, reverseComplement, badFrom, badPlace}
 use Rattle.rules.specs.Places.{places, lettersAt}
@@ -230,13 +230,18 @@ module _ (c : Settings) (s t : List ℕ) where
   entries-size = all-sizes (strands c)
 
 -- the forward part of a job over both strands is the forward job
-module _ (k b a m : ℕ) (s t : List ℕ) where
-  same-entries : strandEntries (both k b a m) s t 0 ≡ strandEntries (forward k b a m) s t 0
+module _ (k b a m mask : ℕ) (s t : List ℕ) where
+  abbrev one : Settings
+  one = settings k b a m 0 mask
+
+  abbrev two : Settings
+  two = settings k b a m 1 mask
+
+  same-entries : strandEntries two s t 0 ≡ strandEntries one s t 0
   unfolding strandEntries listing records matches
   same-entries = refl
 
-  pub forward-first : entries (both k b a m) s t ≡ entries (forward k b a m) s t ++ strandEntries (both k b a m) s t 1
+  pub forward-first : entries two s t ≡ entries one s t ++ strandEntries two s t 1
   unfolding entries strands laid
   forward-first =
-      ap₂ {C = List (List ℕ)} (λ x y. x ++ y) (same-entries ∙ sym (append-nil (strandEntries (forward k b a m) s t 0)))
-      (append-nil (strandEntries (both k b a m) s t 1))
+      ap₂ {C = List (List ℕ)} (λ x y. x ++ y) (same-entries ∙ sym (append-nil (strandEntries one s t 0))) (append-nil (strandEntries two s t 1))

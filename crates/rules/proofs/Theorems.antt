@@ -1,16 +1,17 @@
 -- THE THEOREMS about the definitions of specs/, of every sweep: settings c, a first sequence, and a second one as it stands on the strand that is swept;
--- of any gap bound and any matches, for CR 3; and about the strands. Each is proved in the file that its line cites. Assumes nothing.
+-- of any gap bound and any matches, for CR 3; about the strands; and about masked letters. Each is proved in the file that its line cites. Assumes nothing.
 use mathlib.Core.Path.{_≡_, refl, sym, _∙_}
 use mathlib.Core.Logic.{_⊎_, _↔_}
-use mathlib.Core.Bool.{Bool}
+use mathlib.Core.Bool.{Bool, true, false}
 use mathlib.Core.List.{List, [], _++_, map, List·Memᴰ}
 use Prim.Native.Nat.{ℕ, _+_, _-_, _*_, _≤_, _<_, min}
 use native.Mathlib.Omega.{arith}
 use lib.Dec.{T}
+use lib.ListN.{replicate}
 use Rattle.rules.specs.declared.Settings.{Settings}
-use Rattle.rules.specs.Entered.{forward, both}
+use Rattle.rules.specs.Entered.{settings}
 use Rattle.rules.specs.Lists.{text, keep}
-use Rattle.rules.specs.Letters.{codeOf, complement, reverseComplement, badPlace}
+use Rattle.rules.specs.Letters.{readLetter, codeOf, complement, reverseComplement, badPlace, maskedLetters, asRead}
 use Rattle.rules.specs.Places.{kmerAt, packed}
 use Rattle.rules.specs.Matches.{Cell, cell, isMatch, matches}
 use mathlib.Core.Option.{some}
@@ -33,6 +34,7 @@ use Rattle.rules.proofs.Farther.{row-left-out, not-overtaken, nearest-o
 use Rattle.rules.proofs.Maximal.{closed-offsets, closed-maximal, every-carried, listing-left}
 use Rattle.rules.proofs.Bounds.{W-bound, links-bound, no-matches, no-links}
 use Rattle.rules.proofs.Strands.{turned-twice, place-twice, reads-turned, reverse-within, need-of-each, forward-first}
+use Rattle.rules.proofs.Masks.{SameJob, read-turned, as-capitals, as-N, masks-agree}
 
 module _ (c : Settings) (first second : List ℕ) where
   -- ---- matches
@@ -191,8 +193,8 @@ latest-held-heaviest = latest-held
 -- ---- strands
 
 -- "A letter's complement reverses the four bits of its code, so R becomes Y and N stays": A and T, C and G, M and K, R and Y, V and B, H and D exchange,
--- and S, W and N stay
-pub complements : map complement (text "ACMGRSVTWYHKDBN") ≡ text "TGKCYSBAWRDMHVN"
+-- and S, W and N stay; CR 5: "reverse complement keeps the mask"
+pub complements : map complement (text "ACMGRSVTWYHKDBNacmgrsvtwyhkdbn") ≡ text "TGKCYSBAWRDMHVNtgkcysbawrdmhvn"
 complements = complement-table
 
 -- turning twice is the identity: of a letter, of a sequence of letters, and of a place
@@ -214,11 +216,50 @@ pub reverse-inside : (c : Settings) (first second : List ℕ) → 1 ≤ c .k →
 reverse-inside = reverse-within
 
 -- "forward entries come first": a job over both strands has those of the forward job, and then the reverse ones
-pub forward-entries-first : (k b a m : ℕ) (first second : List ℕ)
-    → entries (both k b a m) first second ≡ entries (forward k b a m) first second ++ strandEntries (both k b a m) first second 1
+pub forward-entries-first : (k b a m mask : ℕ) (first second : List ℕ)
+    → entries (settings k b a m 1 mask) first second
+    ≡ entries (settings k b a m 0 mask) first second ++ strandEntries (settings k b a m 1 mask) first second 1
 forward-entries-first = forward-first
 
 -- "Work room must hold the larger W": no strand of a job needs more
 pub larger-need : (c : Settings) (first second : List ℕ) (strand : ℕ) → List·Memᴰ strand (strands c)
     → workNeed c first (onStrand strand second) ≤ largerNeed c first second
 larger-need = need-of-each
+
+-- ---- masked letters (CR 5)
+
+-- "Reading a letter now tells its capital and whether it is masked": all thirty
+pub capitals-read : map (λ (x : ℕ). readLetter x .capital) (text "ACMGRSVTWYHKDBNacmgrsvtwyhkdbn") ≡ text "ACMGRSVTWYHKDBNACMGRSVTWYHKDBN"
+unfolding readLetter text
+capitals-read = refl
+
+pub masks-read : map (λ (x : ℕ). readLetter x .masked) (text "ACMGRSVTWYHKDBNacmgrsvtwyhkdbn") ≡ replicate 15 false ++ replicate 15 true
+unfolding readLetter text
+masks-read = refl
+
+-- "whether masked letters form k-mers (0) or break them as N does (1)": what all thirty stand for under either setting
+pub letters-formed : asRead 0 (text "ACMGRSVTWYHKDBNacmgrsvtwyhkdbn") ≡ text "ACMGRSVTWYHKDBNACMGRSVTWYHKDBN"
+unfolding asRead text
+letters-formed = refl
+
+pub letters-broken : asRead 1 (text "ACMGRSVTWYHKDBNacmgrsvtwyhkdbn") ≡ text "ACMGRSVTWYHKDBNNNNNNNNNNNNNNNN"
+unfolding asRead text
+letters-broken = refl
+
+-- reading commutes with turning: what is turned with its mask and then read is what is read and then turned, of any bytes
+pub reading-turned : (mask : ℕ) (s : List ℕ) → asRead mask (reverseComplement s) ≡ reverseComplement (asRead mask s)
+reading-turned = read-turned
+
+module _ (k b a m strand : ℕ) (first second : List ℕ) where
+  -- 0: the answer is that of the capitals
+  pub form-as-capitals : SameJob (settings k b a m strand 0) first second (settings k b a m strand 0) (asRead 0 first) (asRead 0 second)
+  form-as-capitals = as-capitals k b a m strand first second
+
+  -- "or break them as N does (1)": the answer is that of the capitals with N for each masked letter
+  pub break-as-N : SameJob (settings k b a m strand 1) first second (settings k b a m strand 0) (asRead 1 first) (asRead 1 second)
+  break-as-N = as-N k b a m strand first second
+
+  -- without a masked letter both settings agree
+  pub unmasked-agree : maskedLetters first ≡ 0 → maskedLetters second ≡ 0
+      → SameJob (settings k b a m strand 0) first second (settings k b a m strand 1) first second
+  unmasked-agree = masks-agree k b a m strand first second

@@ -1,5 +1,5 @@
--- Document 01, "Numbers the registry may receive", with CR 1: the whole outcome of the compare job and of the stopped sweep, every number of the rooms
--- with it, and the reply over the C boundary. Assumes nothing.
+-- Document 01, "Numbers the registry may receive", with CR 1 and CR 5: the whole outcome of the compare job and of the stopped sweep, every number of the
+-- rooms with it, and the reply over the C boundary. Letters are checked as they stand and swept as they are read. Assumes nothing.
 use mathlib.Core.Bool.{Bool, cond, _||_}
 use mathlib.Core.List.{List, [], _∷_, _++_}
 use Prim.Native.Nat.{ℕ, _+_}
@@ -8,7 +8,7 @@ use lib.ListN.{length}
 use Rattle.rules.specs.declared.Settings.{Settings}
 use Rattle.rules.specs.declared.Answer.{Answer}
 use Rattle.rules.specs.Lists.{laid, thenZeros, zeros}
-use Rattle.rules.specs.Letters.{badPlace}
+use Rattle.rules.specs.Letters.{badPlace, asRead}
 use Rattle.rules.specs.Places.{places}
 use Rattle.rules.specs.Records.{Record}
 use Rattle.rules.specs.Rooms.{workHolds, listHolds, recordNumbers, held, matchTotal, workNeed, linkTotal}
@@ -52,7 +52,8 @@ outside low high n = ltb n low || ltb high n
 
 -- ---- the checks that need no room, in pieces
 
--- "1, 2, 3, 4 | k, b, a, m outside the table", then 9: "strand not 0 or 1, checked after 4"
+-- "1, 2, 3, 4 | k, b, a, m outside the table", then 9: "strand not 0 or 1, checked after 4", and "10, mask setting not 0 or 1, after 9 wherever 9 is
+-- checked"
 unfoldable pub settingsChecks : Settings → List (Line Answer)
 unfolding refusal outside
 settingsChecks c =
@@ -61,6 +62,7 @@ settingsChecks c =
     ∷ on (outside 1 1024 (c .a)) (refusal 3 0 0)
     ∷ on (outside 0 16384 (c .m)) (refusal 4 0 0)
     ∷ on (outside 0 1 (c .strand)) (refusal 9 0 0)
+    ∷ on (outside 0 1 (c .mask)) (refusal 10 0 0)
     ∷ []
 
 -- 5: "a sequence too long", by its letters
@@ -83,7 +85,7 @@ unfoldable pub letterChecks : List ℕ → List ℕ → List (Line Answer)
 unfolding letterCheck
 letterChecks first second = letterCheck 1 first ∷ letterCheck 2 second ∷ []
 
--- 1 to 6, in order, with 9 after 4
+-- 1 to 6, in order, with 9 and 10 after 4
 unfoldable pub checks : Settings → List ℕ → List ℕ → List (Line Answer)
 unfolding settingsChecks lengthChecks letterChecks
 checks c first second = settingsChecks c ++ lengthChecks (length first) (length second) ++ letterChecks first second
@@ -122,12 +124,17 @@ unfolding firstOf zeroed workHolds finishing
 comparing entries matches need links work list =
     firstOf (on (ltb (workHolds work) need) (zeroed 7 need work list) ∷ []) (finishing entries matches need links work list)
 
--- "Checks go from 1 to 8"; a job over both strands is "refused for work room exactly below the larger need"
+-- of two sequences, over the strands that are named: "refused for work room exactly below the larger need"
+unfoldable pub comparedSweeps : Settings → List ℕ → List ℕ → List ℕ → List ℕ → Outcome
+unfolding comparing entries matchSum largerNeed linkSum
+comparedSweeps c first second work list =
+    comparing (entries c first second) (matchSum c first second) (largerNeed c first second) (linkSum c first second) work list
+
+-- "Checks go from 1 to 8". CR 5: "Demand 2 reads with the capitals and this break", so that what is swept is both sequences as they are read
 unfoldable pub compared : Settings → List ℕ → List ℕ → List ℕ → List ℕ → Outcome
-unfolding afterChecks comparing entries matchSum largerNeed linkSum
+unfolding afterChecks comparedSweeps asRead
 compared c first second work list =
-    afterChecks c first second work list
-    (comparing (entries c first second) (matchSum c first second) (largerNeed c first second) (linkSum c first second) work list)
+    afterChecks c first second work list (comparedSweeps c (asRead (c .mask) first) (asRead (c .mask) second) work list)
 
 -- a sweep of so many rows, stopped after row r with these records and tallies: 7, then 19, and no list room. Done: the records, "by row then column from
 -- the front, and zeros after them"
@@ -146,11 +153,14 @@ stoppedSweep c first second work r =
 
 -- the stopped sweep: "1 to 7, then 19". It names "one strand, 0 forward or 1 reverse, with its own need and tallies; only entries are turned back"
 unfoldable pub stopped : Settings → List ℕ → List ℕ → List ℕ → ℕ → Outcome
-unfolding afterChecks stoppedSweep onStrand
-stopped c first second work r = afterChecks c first second work [] (stoppedSweep c first (onStrand (c .strand) second) work r)
+unfolding afterChecks stoppedSweep onStrand asRead
+stopped c first second work r =
+    afterChecks c first second work [] (stoppedSweep c (asRead (c .mask) first) (onStrand (c .strand) (asRead (c .mask) second)) work r)
 
--- over the C boundary: "The reply is W, or 4,294,967,296 plus the refusal number 1 to 6.", or 9; the larger W "is reported, also over the C boundary"
+-- over the C boundary: "The reply is W, or 4,294,967,296 plus the refusal number 1 to 6.", or 9 or 10; the larger W "is reported, also over the C
+-- boundary"
 unfoldable pub replied : Settings → List ℕ → List ℕ → ℕ
-unfolding checked largerNeed
+unfolding checked largerNeed asRead
 replied c first second =
-    cond (eqb (checked c first second .number) 0) (largerNeed c first second) (4294967296 + checked c first second .number)
+    cond (eqb (checked c first second .number) 0) (largerNeed c (asRead (c .mask) first) (asRead (c .mask) second))
+    (4294967296 + checked c first second .number)

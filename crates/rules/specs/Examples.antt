@@ -1,12 +1,12 @@
--- Document 01, "Examples in the registry", with CR 1's sixth number and the entries that CR 2 leaves of P5 and P8, and what those leave open: whole
--- answers and whole rooms. Assumes nothing.
+-- Document 01, "Examples in the registry", with CR 1's sixth number and the entries that CR 2 leaves of P5 and P8, and what those leave open, CR 5's masks
+-- with it: whole answers and whole rooms. Assumes nothing.
 use mathlib.Core.Path.{_≡_, refl}
 use mathlib.Core.List.{List, [], _∷_, map}
 use Prim.Native.Nat.{ℕ}
 use lib.ListN.{replicate}
 use Rattle.rules.specs.declared.Settings.{Settings}
 use Rattle.rules.specs.Lists.{text, thenZeros}
-use Rattle.rules.specs.Entered.{settings, forward, both}
+use Rattle.rules.specs.Entered.{settings, forward, both, forward-broken, both-broken}
 use Rattle.rules.specs.Matches.{cell, matches}
 use Rattle.rules.specs.Answers.{Outcome, refusal, compared, stopped, replied}
 
@@ -30,7 +30,11 @@ row q o = record { asked = q; given = o }
 
 -- a strand that there is not
 abbrev no-strand : ℕ → ℕ → ℕ → ℕ → Settings
-no-strand k b a m = settings k b a m 2
+no-strand k b a m = settings k b a m 2 2
+
+-- a mask setting that there is not
+abbrev no-mask : ℕ → ℕ → ℕ → ℕ → Settings
+no-mask k b a m = settings k b a m 1 2
 
 -- a room of n numbers as it is lent, none of them zero, so that zeros are seen to be written
 abbrev room : ℕ → List ℕ
@@ -167,6 +171,36 @@ pub strand-examples : map (λ (r : Row). outcome (r .asked)) strand-rows ≡ map
 unfolding outcome text thenZeros
 strand-examples = refl
 
+-- CR 5: masked letters
+abbrev pub mask-rows : List Row
+unfolding text thenZeros
+mask-rows =
+    -- 0: they form k-mers, so that this is P1
+    row (compare-job (forward 2 2 8 0) (text "acCgT") (text "ACggt") (room 100) (room 100))
+    (done 1 3 2 2 (none 100) (thenZeros (1 ∷ 5 ∷ 1 ∷ 5 ∷ 3 ∷ 0 ∷ []) 100))
+    -- 0 and 1, in the first sequence and in the second: 1 breaks AA and AC
+    ∷ row (compare-job (forward 2 1 8 0) (text "AaC") (text "AC") (room 8) (room 6)) (done 1 1 1 0 (none 8) (2 ∷ 3 ∷ 1 ∷ 2 ∷ 1 ∷ 0 ∷ []))
+    ∷ row (compare-job (forward-broken 2 1 8 0) (text "AaC") (text "AC") (room 8) (room 6)) (done 0 0 0 0 (none 8) (none 6))
+    ∷ row (compare-job (forward 2 1 8 0) (text "AC") (text "AaC") (room 8) (room 6)) (done 1 1 1 0 (none 8) (1 ∷ 2 ∷ 2 ∷ 3 ∷ 1 ∷ 0 ∷ []))
+    ∷ row (compare-job (forward-broken 2 1 8 0) (text "AC") (text "AaC") (room 8) (room 6)) (done 0 0 0 0 (none 8) (none 6))
+    -- only k-mers that are formed count in a total
+    ∷ row (compare-job (forward 1 1 2 0) (text "Aa") (text "A") (room 8) (room 6)) (done 0 0 0 0 (none 8) (none 6))
+    ∷ row (compare-job (forward-broken 1 1 2 0) (text "Aa") (text "A") (room 8) (room 6)) (done 1 1 1 0 (none 8) (1 ∷ 1 ∷ 1 ∷ 1 ∷ 1 ∷ 0 ∷ []))
+    -- turned with its mask NCGGt is aCCGN: AC is broken on the reverse strand, and GT on the forward
+    ∷ row (compare-job (both-broken 2 2 8 0) (text "ACCG") (text "NCGGt") (room 24) (room 12))
+    (done 2 3 2 1 (none 24) (3 ∷ 4 ∷ 2 ∷ 3 ∷ 1 ∷ 0 ∷ 2 ∷ 4 ∷ 2 ∷ 4 ∷ 2 ∷ 1 ∷ []))
+    ∷ row (stopped-sweep (both-broken 2 2 8 0) (text "ACCG") (text "NCGGt") (room 16) 3)
+    (done 2 2 2 1 (2 ∷ 2 ∷ 1 ∷ 2 ∷ 2 ∷ 0 ∷ 0 ∷ 0 ∷ 3 ∷ 3 ∷ 2 ∷ 2 ∷ 2 ∷ 0 ∷ 0 ∷ 0 ∷ []) [])
+    -- no letter: u, and A with its highest bit set, in either case
+    ∷ row (compare-job (forward 1 1 6 0) (text "acgu") (text "A") (room 3) (room 2)) (refused 6 1 4 (room 3) (room 2))
+    ∷ row (compare-job (forward-broken 1 1 6 0) (text "a") (97 ∷ 193 ∷ []) (room 3) (room 2)) (refused 6 2 2 (room 3) (room 2))
+    ∷ row (compare-job (forward-broken 1 1 6 0) (225 ∷ []) (text "a") (room 3) (room 2)) (refused 6 1 1 (room 3) (room 2))
+    ∷ []
+
+pub mask-examples : map (λ (r : Row). outcome (r .asked)) mask-rows ≡ map (λ (r : Row). r .given) mask-rows
+unfolding outcome text thenZeros
+mask-examples = refl
+
 -- each refusal where all that come after it apply too, so that the first is given; and the settings at the ends of their ranges
 abbrev pub refusal-rows : List Row
 unfolding text
@@ -188,16 +222,19 @@ refusal-rows =
     (refused 4 0 0 (room 3) (room 2))
     ∷ row (compare-job (no-strand 31 1024 1024 16384) (replicate 16385 0) (replicate 16385 0) (room 3) (room 2))
     (refused 9 0 0 (room 3) (room 2))
-    ∷ row (compare-job (both 31 1024 1024 16384) (replicate 16385 0) (replicate 16385 0) (room 3) (room 2))
+    ∷ row (compare-job (no-mask 31 1024 1024 16384) (replicate 16385 0) (replicate 16385 0) (room 3) (room 2))
+    (refused 10 0 0 (room 3) (room 2))
+    ∷ row (compare-job (both-broken 31 1024 1024 16384) (replicate 16385 0) (replicate 16385 0) (room 3) (room 2))
     (refused 5 1 0 (room 3) (room 2))
-    ∷ row (compare-job (forward 31 1024 1024 16384) (text "a") (replicate 16385 0) (room 3) (room 2)) (refused 5 2 0 (room 3) (room 2))
-    ∷ row (compare-job (forward 1 1 6 0) (text "AaA") (text "AAU") (room 3) (room 2)) (refused 6 1 2 (room 3) (room 2))
+    ∷ row (compare-job (forward 31 1024 1024 16384) (text "u") (replicate 16385 0) (room 3) (room 2)) (refused 5 2 0 (room 3) (room 2))
+    ∷ row (compare-job (forward 1 1 6 0) (text "AuA") (text "AAU") (room 3) (room 2)) (refused 6 1 2 (room 3) (room 2))
     ∷ row (compare-job (forward 1 1 6 0) (text "AAA") (text "AAU") (room 3) (room 2)) (refused 6 2 3 (room 3) (room 2))
     ∷ row (compare-job (forward 1 1 6 0) (text "AAA") (text "AAA") (room 47) (room 5)) (refused 7 0 6 (none 47) (none 5))
     ∷ row (compare-job (forward 1 1 6 0) (text "AAA") (text "AAA") (room 48) (room 5)) (refused 8 0 1 (none 48) (none 5))
     ∷ row (stopped-sweep (forward 0 1 6 0) (text "AAA") (text "AAA") (room 47) 4) (refused 1 0 0 (room 47) [])
     ∷ row (stopped-sweep (forward 1 1 6 16385) (text "AAA") (text "AAA") (room 47) 4) (refused 4 0 0 (room 47) [])
     ∷ row (stopped-sweep (no-strand 1 1 6 0) (text "AAA") (text "AAU") (room 47) 4) (refused 9 0 0 (room 47) [])
+    ∷ row (stopped-sweep (no-mask 1 1 6 0) (text "AAA") (text "AAU") (room 47) 4) (refused 10 0 0 (room 47) [])
     ∷ row (stopped-sweep (forward 1 1 6 0) (text "AAA") (text "AAU") (room 47) 4) (refused 6 2 3 (room 47) [])
     ∷ row (stopped-sweep (forward 1 1 6 0) (text "AAA") (text "AAA") (room 47) 4) (refused 7 0 6 (none 47) [])
     ∷ row (stopped-sweep (forward 1 1 6 0) (text "AAA") (text "AAA") (room 48) 4) (refused 19 0 3 (none 48) [])
@@ -214,17 +251,21 @@ pub refusal-examples : map (λ (r : Row). outcome (r .asked)) refusal-rows ≡ m
 unfolding outcome text
 refusal-examples = refl
 
--- the reply over the C boundary: W, the larger W, and each refusal 1 to 4, 9, 5 and 6
+-- the reply over the C boundary: W, the larger W, and each refusal 1 to 4, 9, 10, 5 and 6
 pub replies : replied (forward 2 2 8 0) (text "ACCGT") (text "ACGGT")
     ∷ replied (both 2 2 8 0) (text "ACCGT") (text "ACGGT")
-    ∷ replied (forward 0 0 0 16385) (text "a") (text "a")
-    ∷ replied (forward 1 0 0 16385) (text "a") (text "a")
-    ∷ replied (forward 1 1 0 16385) (text "a") (text "a")
-    ∷ replied (no-strand 1 1 1 16385) (text "a") (text "a")
-    ∷ replied (no-strand 1 1 1 0) (text "a") (replicate 16385 0)
-    ∷ replied (forward 1 1 1 0) (text "a") (replicate 16385 0)
-    ∷ replied (forward 1 1 1 0) (text "a") (text "A")
+    ∷ replied (forward 0 0 0 16385) (text "u") (text "u")
+    ∷ replied (forward 1 0 0 16385) (text "u") (text "u")
+    ∷ replied (forward 1 1 0 16385) (text "u") (text "u")
+    ∷ replied (no-strand 1 1 1 16385) (text "u") (text "u")
+    ∷ replied (no-strand 1 1 1 0) (text "u") (replicate 16385 0)
+    ∷ replied (no-mask 1 1 1 0) (text "u") (replicate 16385 0)
+    ∷ replied (forward 1 1 1 0) (text "u") (replicate 16385 0)
+    ∷ replied (forward 1 1 1 0) (text "u") (text "A")
+    -- W of sequences as they are read
+    ∷ replied (both 2 2 8 0) (text "AccgT") (text "acGGT")
+    ∷ replied (both-broken 2 2 8 0) (text "ACCGt") (text "ACGGT")
     ∷ []
-    ≡ 2 ∷ 3 ∷ 4294967297 ∷ 4294967298 ∷ 4294967299 ∷ 4294967300 ∷ 4294967305 ∷ 4294967301 ∷ 4294967302 ∷ []
+    ≡ 2 ∷ 3 ∷ 4294967297 ∷ 4294967298 ∷ 4294967299 ∷ 4294967300 ∷ 4294967305 ∷ 4294967306 ∷ 4294967301 ∷ 4294967302 ∷ 3 ∷ 3 ∷ []
 unfolding replied text
 replies = refl

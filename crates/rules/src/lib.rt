@@ -12,6 +12,16 @@ pub struct Settings {
     pub m: u32,
     // 0 forward, 1 both; of the stopped sweep 0 forward, 1 reverse
     pub strand: u32,
+    // 0 masked letters form k-mers, 1 they break them as N does
+    pub mask: u32,
+}
+
+// A byte as it is read.
+pub struct Letter {
+    // 0 where it is none of the fifteen, in either case
+    pub capital: u8,
+    // whether it stands in lower case
+    pub masked: bool,
 }
 
 // A row, a place of the first sequence, and a column, a place of the second.

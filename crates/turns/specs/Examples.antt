@@ -17,7 +17,7 @@ pub record Row : Type 0 where
 
 -- P1's job and so many letters of both sequences, at a turn
 abbrev pub at : ℕ → ℕ → Progress
-at turn n = record { turn = turn; settings = settings 2 2 8 0 0; first = replicate n 65; second = replicate n 65 }
+at turn n = record { turn = turn; settings = settings 2 2 8 0 0 0; first = replicate n 65; second = replicate n 65 }
 
 abbrev pub row : Progress → List ℕ → ℕ → Row
 row before line number = record { before = before; line = line; number = number }

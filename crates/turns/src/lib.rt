@@ -66,7 +66,7 @@ fn strand_in(size: usize, bytes: &[u8]) -> u32
     0
 }
 
-// The state after a job, whose settings stand in the frame's bytes from place 2 on.
+// The state after a job, whose settings stand in the frame's bytes from place 2 on. A job frame means mask 0.
 fn job_state(s: State, bytes: &[u8], size: usize) -> State
     requires { ⌜ 67 ≤ length (now bytes) ⌝ }
     ensures { λ r. ⌜ r ≡ jobState s (now (bytes .entry)) size ⌝ }
@@ -78,6 +78,7 @@ fn job_state(s: State, bytes: &[u8], size: usize) -> State
             a: payloads::number_at(bytes, 5, 2) as u32,
             m: payloads::number_at(bytes, 7, 2) as u32,
             strand: strand_in(size, bytes),
+            mask: 0,
         };
         return State {
             number: 0,

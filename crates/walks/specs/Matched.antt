@@ -1,4 +1,5 @@
--- The matches of a job whose first sequence is given by its codes, and the columns of its rows. Assumes nothing.
+-- The matches of a job whose first sequence is given by its codes, and the columns of its rows. The letters of the second are those that are read, in all
+-- but `Fits`, which speaks of them as they stand. Assumes nothing.
 use mathlib.Core.Path.{_≡_}
 use mathlib.Core.Bool.{Bool, cond}
 use mathlib.Core.List.{List}

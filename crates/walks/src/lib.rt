@@ -1,8 +1,9 @@
-// From the codes of the first sequence and the letters of the second to the matches of each strand, as walks over columns: for each row the first column
+// From the codes of the first sequence and the letters of the second, as they are read, to the matches of each strand, as walks over columns: for each row the first column
 // it meets, for each column the next one with the same k-mer. Local arrays hold letters and codes, no records.
 use rules::Settings;
 ghost use mathlib.Core.Path.{_≡_};
 ghost use lib.ListN.{length};
+ghost use Rattle.rules.specs.Letters.{asRead};
 ghost use Rattle.rules.specs.Strands.{onStrand};
 ghost use Rattle.walks.specs.Matched.{Fits, Columns, BothColumns};
 
@@ -11,19 +12,19 @@ pub fn forward(c: Settings, coded: &[u64], second: &[u8], firsts: &mut [u32], ne
     requires { ⌜ Fits c (now coded) (now second) ⌝ }
     requires { ⌜ length (now firsts) ≡ 16384 ⌝ }
     requires { ⌜ length (now nexts) ≡ 16384 ⌝ }
-    ensures { λ _. ⌜ Columns c (now (coded .entry)) (now (second .entry)) (now (firsts .entry)) (now (nexts .entry)) (now (firsts .exit)) (now (nexts .exit)) ⌝ }
+    ensures { λ _. ⌜ Columns c (now (coded .entry)) (asRead (c .mask) (now (second .entry))) (now (firsts .entry)) (now (nexts .entry)) (now (firsts .exit)) (now (nexts .exit)) ⌝ }
 {
     let mut codes = [0u64; 16384];
-    let columns = kmers::code_all(second, c.k, &mut codes);
+    let columns = kmers::code_all(second, c.k, c.mask, &mut codes);
     matches::find_matches(coded, &codes[..columns], c.a, firsts, nexts);
 }
 
-// And turned round.
+// And turned round, masks kept.
 fn reverse(c: Settings, coded: &[u64], second: &[u8], firsts: &mut [u32], nexts: &mut [u32])
     requires { ⌜ Fits c (now coded) (now second) ⌝ }
     requires { ⌜ length (now firsts) ≡ 16384 ⌝ }
     requires { ⌜ length (now nexts) ≡ 16384 ⌝ }
-    ensures { λ _. ⌜ Columns c (now (coded .entry)) (onStrand 1 (now (second .entry))) (now (firsts .entry)) (now (nexts .entry)) (now (firsts .exit)) (now (nexts .exit)) ⌝ }
+    ensures { λ _. ⌜ Columns c (now (coded .entry)) (onStrand 1 (asRead (c .mask) (now (second .entry)))) (now (firsts .entry)) (now (nexts .entry)) (now (firsts .exit)) (now (nexts .exit)) ⌝ }
 {
     let mut turned = [0u8; 16384];
     letters::reverse_complement(second, &mut turned);
@@ -35,7 +36,7 @@ pub fn strand(c: Settings, coded: &[u64], second: &[u8], firsts: &mut [u32], nex
     requires { ⌜ Fits c (now coded) (now second) ⌝ }
     requires { ⌜ length (now firsts) ≡ 16384 ⌝ }
     requires { ⌜ length (now nexts) ≡ 16384 ⌝ }
-    ensures { λ _. ⌜ Columns c (now (coded .entry)) (onStrand (c .strand) (now (second .entry))) (now (firsts .entry)) (now (nexts .entry)) (now (firsts .exit)) (now (nexts .exit)) ⌝ }
+    ensures { λ _. ⌜ Columns c (now (coded .entry)) (onStrand (c .strand) (asRead (c .mask) (now (second .entry)))) (now (firsts .entry)) (now (nexts .entry)) (now (firsts .exit)) (now (nexts .exit)) ⌝ }
 {
     if c.strand == 0 {
         forward(c, coded, second, firsts, nexts);
@@ -59,7 +60,7 @@ pub fn both(
     requires { ⌜ length (now nexts) ≡ 16384 ⌝ }
     requires { ⌜ length (now «reverse_firsts») ≡ 16384 ⌝ }
     requires { ⌜ length (now «reverse_nexts») ≡ 16384 ⌝ }
-    ensures { λ r. ⌜ BothColumns c (now (coded .entry)) (now (second .entry)) (now (firsts .entry)) (now (nexts .entry)) (now («reverse_firsts» .entry)) (now («reverse_nexts» .entry)) (now (firsts .exit)) (now (nexts .exit)) (now («reverse_firsts» .exit)) (now («reverse_nexts» .exit)) r ⌝ }
+    ensures { λ r. ⌜ BothColumns c (now (coded .entry)) (asRead (c .mask) (now (second .entry))) (now (firsts .entry)) (now (nexts .entry)) (now («reverse_firsts» .entry)) (now («reverse_nexts» .entry)) (now (firsts .exit)) (now (nexts .exit)) (now («reverse_firsts» .exit)) (now («reverse_nexts» .exit)) r ⌝ }
 {
     forward(c, coded, second, firsts, nexts);
     if c.strand == 0 {

@@ -19,10 +19,12 @@ pub struct Report<'a> {
     pub comparisons: Vec<Comparison<'a>>,
 }
 
-/// A record and the SHA-256 of its letters.
+/// A record, how many of its letters are masked, and their SHA-256.
 pub struct Sequence<'a> {
     /// The record.
     pub record: &'a Record,
+    /// How many of its letters are in lower case.
+    pub masked: usize,
     /// The digest, in hexadecimal digits.
     pub digest: String,
 }
@@ -31,9 +33,22 @@ impl Sequence<'_> {
     fn new(record: &Record) -> Sequence<'_> {
         Sequence {
             record,
+            masked: masked(&record.letters),
             digest: sha256::hexadecimal(&record.letters),
         }
     }
+}
+
+/// How many letters are in lower case. They are counted in bytes, as many as a byte
+/// holds: such a pass takes many letters at a time, and one that counts in larger
+/// numbers ten times as long.
+fn masked(letters: &[u8]) -> usize {
+    let lower = |few: &[u8]| -> u8 {
+        let each = few.iter().map(|it| u8::from(it.is_ascii_lowercase()));
+        each.sum()
+    };
+    let counts = letters.chunks(u8::MAX.into()).map(lower);
+    counts.map(usize::from).sum()
 }
 
 /// One second sequence and what came of it.
@@ -152,7 +167,7 @@ fn list_each(
 
 /// Whether a refusal is of the settings or the first sequence.
 fn recurs(listed: &Result<Listing, Refusal>) -> bool {
-    let recurs = |it: &Refusal| matches!(it.number, 1..=4 | 9) || it.sequence == 1;
+    let recurs = |it: &Refusal| matches!(it.number, 1..=4 | 9 | 10) || it.sequence == 1;
     listed.as_ref().is_err_and(recurs)
 }
 
@@ -171,6 +186,21 @@ fn outcome(
         Err(refusal) => {
             let words = words::refused(settings, sequences, number, refusal);
             Outcome::Refused(refusal, words)
+        }
+    }
+}
+
+#[cfg(test)]
+mod tests {
+    use super::*;
+
+    #[test]
+    fn masked_letters_are_counted_past_what_a_byte_holds() {
+        assert_eq!(masked(b""), 0);
+        assert_eq!(masked(b"AcGtN-@[`{\xE1"), 2);
+        for length in [254, 255, 256, 510, 511, 16_384] {
+            assert_eq!(masked(&vec![b'n'; length]), length);
+            assert_eq!(masked(&vec![b'N'; length]), 0);
         }
     }
 }

@@ -3,7 +3,7 @@
 use asked::numbers::{self, grouped};
 use asked::records::Record;
 use asked::Sequences;
-use hornbeamlet::{Answer, Refusal, Settings, Strands, A, B, K, KIT, M, VERSION};
+use hornbeamlet::{Answer, Masked, Refusal, Settings, Strands, A, B, K, KIT, M, VERSION};
 use std::ops::RangeInclusive;
 
 /// The command's version, and the kit that the library was proved with.
@@ -50,10 +50,7 @@ pub fn no_clause(
     answer: Answer,
 ) -> String {
     let both = [Named::first(sequences), Named::second(sequences, number)];
-    let without: Vec<String> = both
-        .iter()
-        .filter_map(|it| it.no_kmer(settings.k))
-        .collect();
+    let without: Vec<String> = both.iter().filter_map(|it| it.no_kmer(settings)).collect();
     let strands = match settings.strand {
         Strands::Forward => "on the forward strand",
         Strands::Both => "on either strand",
@@ -114,28 +111,38 @@ impl Named<'_> {
         format!("{which}, {name}, has {letter} at place {place}, on line {line} of {file}; {hint}")
     }
 
-    /// Why the record has no k-mer, if it has none.
-    fn no_kmer(&self, k: u32) -> Option<String> {
+    /// Why the record has no k-mer, if it has none. That masked letters break is
+    /// told where it would have one otherwise.
+    fn no_kmer(&self, settings: Settings) -> Option<String> {
         let Record { name, letters, .. } = self.record;
+        let Settings { k, masked, .. } = settings;
         let why = match letters.len() {
             0 => "has no letters".to_string(),
             few if few < k as usize => {
                 let letters = numbers::letters(few);
                 format!("has {letters}, fewer than the k-mer length, {k}")
             }
-            _ if !has_kmer(letters, k as usize) => {
+            _ if !has_kmer(letters, k as usize, Masked::Form) => {
                 format!("has no {k} letters in a row that are A, C, G or T, so no k-mer")
             }
+            _ if !has_kmer(letters, k as usize, masked) => format!(
+                "has no {k} letters in a row that are A, C, G or T and not masked, so no k-mer \
+                 (--masked break)"
+            ),
             _ => return None,
         };
         Some(format!("{}, {name}, {why}", self.which))
     }
 }
 
-/// Whether k letters in a row are bases.
-fn has_kmer(letters: &[u8], k: usize) -> bool {
-    let other = |letter: &u8| !b"ACGT".contains(letter);
-    letters.split(other).any(|bases| bases.len() >= k)
+/// Whether k letters in a row form a k-mer.
+fn has_kmer(letters: &[u8], k: usize, masked: Masked) -> bool {
+    let bases = match masked {
+        Masked::Form => "ACGTacgt",
+        Masked::Break => "ACGT",
+    };
+    let breaks = |letter: &u8| !bases.as_bytes().contains(letter);
+    letters.split(breaks).any(|bases| bases.len() >= k)
 }
 
 /// What stands at a place, and what to do about it.
@@ -147,12 +154,14 @@ fn letter_at(letters: &[u8], place: usize) -> (String, &'static str) {
         None => format!("the byte {:02X}", from.first().unwrap_or(&0)),
     };
     let hint = match character {
-        Some('u' | 'U') => "neither u nor U is accepted; write T for each, a capital",
-        Some('a'..='z') => "lower case is not accepted, capitals are",
+        Some('U' | 'u') => "RNA is not accepted; write T for each U and t for each u",
         Some('-' | '.') => "a gap is no letter; take it out",
         Some('>') => "a name begins a line; put a line end before it",
-        Some('A'..='Z') => "the letters of nucleotides are ABCDGHKMNRSTVWY; is this a protein?",
-        _ => "the letters are ABCDGHKMNRSTVWY; take out what is none",
+        Some('A'..='Z' | 'a'..='z') => {
+            "the letters of nucleotides are ABCDGHKMNRSTVWY, capital or lower case; \
+             is this a protein?"
+        }
+        _ => "the letters are ABCDGHKMNRSTVWY, capital or lower case; take out what is none",
     };
     (letter, hint)
 }
@@ -206,8 +215,8 @@ mod tests {
     fn every_kind_of_letter_gets_an_advice() {
         let advice = |letters| letter_at(letters, 1).1;
         assert_eq!(advice(b"u"), advice(b"U"));
-        assert!(advice(b"u").contains("write T"));
-        assert_eq!(advice(b"a"), "lower case is not accepted, capitals are");
+        assert!(advice(b"u").contains("RNA"));
+        assert_eq!(advice(b"e"), advice(b"E"));
         assert!(advice(b"-").contains("gap") && advice(b"E").contains("protein"));
         assert!(advice(b">").contains("line end"));
         assert!(advice(b"7").contains("take out") && advice(b"\xFF").contains("take out"));
@@ -215,7 +224,22 @@ mod tests {
 
     #[test]
     fn bases_in_a_row_make_a_kmer() {
-        assert!(has_kmer(b"NACGTN", 4) && !has_kmer(b"NACGTN", 5));
-        assert!(!has_kmer(b"NNNN", 1) && !has_kmer(b"", 1) && has_kmer(b"NA", 1));
+        for masked in [Masked::Form, Masked::Break] {
+            let has_kmer = |letters, k| has_kmer(letters, k, masked);
+            assert!(has_kmer(b"NACGTN", 4) && !has_kmer(b"NACGTN", 5));
+            assert!(!has_kmer(b"NNNN", 1) && !has_kmer(b"", 1) && has_kmer(b"NA", 1));
+        }
+    }
+
+    #[test]
+    fn masked_bases_break_where_they_are_to() {
+        let longest = |letters, masked| {
+            let mut lengths = (1..=9).rev();
+            lengths.find(|&k| has_kmer(letters, k, masked))
+        };
+        assert_eq!(longest(b"ACgtACGnA", Masked::Form), Some(7));
+        assert_eq!(longest(b"ACgtACGnA", Masked::Break), Some(3));
+        assert_eq!(longest(b"acgt", Masked::Form), Some(4));
+        assert_eq!(longest(b"acgt", Masked::Break), None);
     }
 }

@@ -2,8 +2,9 @@
 
 use crate::numbers::{grouped, whole};
 use crate::sources::Source;
-use settings::{Settings, Strands, A, B, K, M};
+use settings::{Masked, Settings, Strands, A, B, K, M};
 use std::ffi::OsString;
+use std::fmt::Display;
 use std::ops::RangeInclusive;
 use std::path::PathBuf;
 
@@ -110,11 +111,14 @@ impl Reading {
             Some(rest) => (Some(rest), Taken::One),
             None => (next, Taken::Two),
         };
-        if name == "--strand" {
-            self.settings.strand = strand(value)?;
-        } else {
-            let (setting, accepted) = self.number(name).ok_or_else(|| unknown(option))?;
-            *setting = number(name, value, accepted)?;
+        let Settings { strand, masked, .. } = &mut self.settings;
+        match name {
+            "--strand" => *strand = one_of(name, value, [Strands::Forward, Strands::Both])?,
+            "--masked" => *masked = one_of(name, value, [Masked::Form, Masked::Break])?,
+            _ => {
+                let (setting, accepted) = self.number(name).ok_or_else(|| unknown(option))?;
+                *setting = number(name, value, accepted)?;
+            }
         }
         Ok(taken)
     }
@@ -174,11 +178,16 @@ fn unknown(option: &str) -> String {
     format!("there is no option {option} (annex --help)")
 }
 
-fn strand(value: Option<&str>) -> Result<Strands, String> {
-    let value = value.ok_or("--strand needs forward or both after it")?;
-    let mut strands = [Strands::Forward, Strands::Both].into_iter();
-    let named = strands.find(|strand| strand.to_string() == value);
-    named.ok_or_else(|| format!("--strand needs forward or both, not {}", quoted(value)))
+/// The choice that is named by its word.
+fn one_of<T: Copy + Display>(
+    name: &str,
+    value: Option<&str>,
+    choices: [T; 2],
+) -> Result<T, String> {
+    let needed = format!("{name} needs {} or {}", choices[0], choices[1]);
+    let value = value.ok_or_else(|| format!("{needed} after it"))?;
+    let named = choices.into_iter().find(|it| it.to_string() == value);
+    named.ok_or_else(|| format!("{needed}, not {}", quoted(value)))
 }
 
 /// Any number that can be handed on: whether it is accepted is for the library to
@@ -219,14 +228,21 @@ mod tests {
 
     #[test]
     fn the_help_names_the_defaults() {
-        let Settings { k, b, a, m, strand } = Settings::default();
+        let Settings { k, b, a, m, .. } = Settings::default();
         for (name, value) in [("k", k), ("b", b), ("a", a), ("m", m)] {
             let mut lines = HELP.lines();
             let line = lines.find(|line| line.starts_with(&format!("  -{name} N")));
             assert!(line.unwrap().ends_with(&format!("({value})")));
         }
-        assert_eq!(strand, Strands::Both);
-        assert!(HELP.contains("\n  --strand forward|both") && HELP.contains(" (both)\n"));
+        let Settings { strand, masked, .. } = Settings::default();
+        for (option, value) in [
+            ("strand forward|both", strand.to_string()),
+            ("masked form|break", masked.to_string()),
+        ] {
+            let mut lines = HELP.lines();
+            let line = lines.find(|line| line.starts_with(&format!("  --{option} ")));
+            assert!(line.unwrap().ends_with(&format!(" ({value})")));
+        }
     }
 
     fn file(name: &str) -> Source {
@@ -241,17 +257,18 @@ mod tests {
             a: 7,
             m: 0,
             strand: Strands::Forward,
+            masked: Masked::Break,
         };
-        let forward = ["--strand", "forward"];
+        let words = ["--strand", "forward", "--masked", "break"];
         for arguments in [
             [
                 &["-k", "5", "-a7", "-m0", "-b", "1,024"],
-                &forward[..],
+                &words[..],
                 &["x", "y", "z"],
             ],
             [
                 &["x"],
-                &forward,
+                &words,
                 &["-m0", "y", "-k", "5", "-a7", "-b1,024", "z"],
             ],
         ] {
@@ -268,6 +285,14 @@ mod tests {
         assert_eq!(strand(&["x", "y"]), Strands::Both);
         assert_eq!(strand(&["x", "y", "--strand", "both"]), Strands::Both);
         assert_eq!(strand(&["--strand=forward", "x", "y"]), Strands::Forward);
+    }
+
+    #[test]
+    fn masked_letters_form_kmers_unless_they_are_to_break_them() {
+        let masked = |arguments: &[&str]| options(arguments).settings.masked;
+        assert_eq!(masked(&["x", "y"]), Masked::Form);
+        assert_eq!(masked(&["x", "y", "--masked", "form"]), Masked::Form);
+        assert_eq!(masked(&["--masked=break", "x", "y"]), Masked::Break);
     }
 
     #[test]
@@ -301,7 +326,7 @@ mod tests {
 
     #[test]
     fn faults_are_told_in_plain_words() {
-        let faults: [(&[&str], &str); 18] = [
+        let faults: [(&[&str], &str); 22] = [
             (&[], "0 given"),
             (&["x"], "1 given"),
             (&["-"], "1 given"),
@@ -325,6 +350,10 @@ mod tests {
             (&["x", "y", "--strand", "reverse"], "not 'reverse'"),
             (&["x", "y", "--strand", "1"], "not '1'"),
             (&["x", "y", "--strand="], "forward or both, not ''"),
+            (&["x", "y", "--masked"], "form or break after it"),
+            (&["x", "y", "--masked", "soft"], "not 'soft'"),
+            (&["x", "y", "--masked=1"], "form or break, not '1'"),
+            (&["x", "y", "--masked", "Break"], "not 'Break'"),
             (&["x", "y", "--xml"], "no option --xml"),
             (&["x", "-j"], "no option -j"),
             (&["x", "-é"], "no option -é"),

@@ -88,8 +88,15 @@ fn tasks(jobs: &[Job], lent: &[Lent]) -> Vec<Task> {
 
 /// The reference's answer in the library's terms.
 fn by_reference(job: &Job, work: &mut [u32], list: &mut [u32]) -> Answer {
-    let Entered { k, b, a, m, strand } = job.settings.into();
-    let settings = reference::Settings { k, b, a, m, strand };
+    let entered = Entered::from(job.settings);
+    let settings = reference::Settings {
+        k: entered.k,
+        b: entered.b,
+        a: entered.a,
+        m: entered.m,
+        strand: entered.strand,
+        mask: entered.mask,
+    };
     let given = reference::compare(settings, &job.first, &job.second, work, list);
     Answer {
         number: given.number,

@@ -221,7 +221,7 @@ fn worst_job(name: &str, k: u32, first: Vec<u8>, second: Vec<u8>) -> Job {
             b: 1_024,
             a: 1_024,
             m: 0,
-            strand: Strands::Forward,
+            ..ordinary_settings()
         },
         first,
         second,

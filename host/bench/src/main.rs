@@ -5,10 +5,9 @@
 //! `bench --k` tells instead what k-mers of other lengths do to a listing, and
 //! times nothing.
 //!
-//! `bench --before BENCH ANNEX` compares with an earlier revision: BENCH is a
-//! `bench` of this source that is linked with the earlier library, and ANNEX the
-//! earlier command. See tools/bench-before. `bench --serve` is either side of the
-//! two libraries.
+//! `bench --before BENCH ANNEX` compares with an earlier revision: BENCH is its
+//! `bench`, linked with its library, and ANNEX its command. See tools/bench-before.
+//! `bench --serve` is either side of the two libraries.
 
 #![forbid(unsafe_code)]
 

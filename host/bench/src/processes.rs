@@ -106,9 +106,12 @@ impl Programs {
 }
 
 /// All settings that `annex` is asked for: an earlier one may have had others
-/// where none are given.
+/// where none are given. No letter of a pair is masked, so that `--masked`, which
+/// an earlier one may not know, changes nothing and is left out.
 fn setting_words(job: &Job) -> String {
-    let Settings { k, b, a, m, strand } = job.settings;
+    let Settings {
+        k, b, a, m, strand, ..
+    } = job.settings;
     format!("-k {k} -b {b} -a {a} -m {m} --strand {strand}")
 }
 

@@ -79,7 +79,7 @@ pub struct Server {
 }
 
 impl Server {
-    /// Starts this program, or one of the same source.
+    /// Starts this program, or that of an earlier revision with the same jobs.
     pub fn start(program: &Path) -> Server {
         let started = Command::new(program)
             .arg(SERVE)

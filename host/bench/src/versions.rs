@@ -21,8 +21,8 @@ const HEADINGS: [&str; 6] = [
 
 const PROCESS_HEADINGS: [&str; 4] = ["pair", "before", "after", "after : before"];
 
-/// Both tables. The paths are those of a `bench` of the same source with the
-/// library before the change, and of the `annex` before it.
+/// Both tables. The paths are those of the `bench` and of the `annex` before the
+/// change.
 pub fn print(bench: &Path, annex: &Path) -> Result<(), String> {
     let after = env::current_exe().map_err(|error| error.to_string())?;
     let benches = [found(bench)?, after];

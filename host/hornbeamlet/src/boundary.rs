@@ -25,8 +25,8 @@ macro_rules! calls {
     // What is next in the list: as it is taken, and what crosses for it.
     (@next $made:tt $name:ident: Entered, $($list:tt)*) => {
         calls!(@add $made
-            {Entered { k, b, a, m, strand }: Entered}
-            {k => u32, b => u32, a => u32, m => u32, strand => u32}
+            {Entered { k, b, a, m, strand, mask }: Entered}
+            {k => u32, b => u32, a => u32, m => u32, strand => u32, mask => u32}
             $($list)*);
     };
     (@next $made:tt $name:ident: &[$of:ty], $($list:tt)*) => {
@@ -104,7 +104,7 @@ calls! {
 impl Library {
     /// How many records of work room the job needs: W, over both strands the
     /// larger of the two, or [`crate::REFUSED`] plus the number of a refusal,
-    /// 1 to 6 or 9.
+    /// 1 to 6, 9 or 10.
     pub fn need(&self, settings: impl Into<Entered>, first: &[u8], second: &[u8]) -> u64 {
         hornbeamlet_need(settings.into(), first, second)
     }

@@ -13,9 +13,11 @@
 //! });
 //! ```
 
-/// A job: k, b, a, m, strand.
+/// A job: k, b, a, m, strand. It means mask setting 0, and one with another has no
+/// frame.
 pub const JOB: u32 = 0x01;
-/// A piece of the first sequence: 1 to 128 letter codes from 1 to 15.
+/// A piece of the first sequence: 1 to 128 letter codes from 1 to 15, those of
+/// capitals.
 pub const FIRST_PIECE: u32 = 0x02;
 /// A piece of the second sequence, likewise.
 pub const SECOND_PIECE: u32 = 0x03;

@@ -29,7 +29,8 @@ mod stack;
 pub use listing::{Entry, Listing};
 pub use refusal::Refusal;
 pub use settings::{
-    Entered, Settings, Strand, Strands, A, B, BOTH, FORWARD, K, LONGEST, M, REVERSE,
+    Entered, Masked, Settings, Strand, Strands, A, B, BOTH, FORWARD, K, LONGEST, M, MASKED_BREAK,
+    MASKED_FORM, REVERSE,
 };
 pub use stack::{with_library, Library};
 

@@ -73,8 +73,8 @@ pub struct Listing {
 impl Library {
     /// The listing of a job. Rooms of some size are lent at first and, where the
     /// library tells that one was short, just as large as it asks for: three calls
-    /// at most, and one for an ordinary job. What is refused then is one of 1 to 6
-    /// or 9.
+    /// at most, and one for an ordinary job. What is refused then is one of 1 to 6,
+    /// 9 or 10.
     pub fn list(
         &self,
         settings: impl Into<Entered>,

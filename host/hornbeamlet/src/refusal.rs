@@ -46,11 +46,13 @@ impl Display for Refusal {
             5 => write!(to, "the {which} sequence has more than {LONGEST} letters"),
             6 => write!(
                 to,
-                "place {detail} of the {which} sequence has no letter of ABCDGHKMNRSTVWY"
+                "place {detail} of the {which} sequence has no letter of ABCDGHKMNRSTVWY, \
+                 capital or lower case"
             ),
             7 => write!(to, "work room for {detail} records is needed"),
             8 => write!(to, "list room for {detail} entries is needed"),
             9 => write!(to, "the strand is neither 0 nor 1"),
+            10 => write!(to, "the mask setting is neither 0 nor 1"),
             19 => write!(to, "the row is above the number of rows, {detail}"),
             _ => write!(to, "sequence {}, detail {detail}", self.sequence),
         }
@@ -84,9 +86,17 @@ mod tests {
         );
         assert_eq!(
             said(6, 2, 7),
-            "refused, number 6: place 7 of the second sequence has no letter of ABCDGHKMNRSTVWY"
+            "refused, number 6: place 7 of the second sequence has no letter of ABCDGHKMNRSTVWY, \
+             capital or lower case"
         );
-        for (number, word) in [(7, "records"), (8, "entries"), (9, "strand"), (19, "rows")] {
+        let words = [
+            (7, "records"),
+            (8, "entries"),
+            (9, "strand"),
+            (10, "mask"),
+            (19, "rows"),
+        ];
+        for (number, word) in words {
             assert!(said(number, 0, 3).contains(word));
         }
         assert_eq!(said(30, 2, 7), "refused, number 30: sequence 2, detail 7");

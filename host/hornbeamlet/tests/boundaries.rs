@@ -4,7 +4,7 @@
 #![forbid(unsafe_code)]
 
 use hornbeamlet::{with_library, Answer, Entered, Entry, Library, Refusal, Strand};
-use hornbeamlet::{BOTH, FORWARD, REFUSED, REVERSE};
+use hornbeamlet::{BOTH, FORWARD, MASKED_BREAK, MASKED_FORM, REFUSED, REVERSE};
 use reference::letters::reverse_complement;
 
 const STALE: u32 = 77;
@@ -13,12 +13,22 @@ const STALE: u32 = 77;
 const P1: Entered = settings(2, 2, 8, 0);
 
 const fn settings(k: u32, b: u32, a: u32, m: u32) -> Entered {
-    let strand = FORWARD;
-    Entered { k, b, a, m, strand }
+    Entered {
+        k,
+        b,
+        a,
+        m,
+        strand: FORWARD,
+        mask: MASKED_FORM,
+    }
 }
 
 const fn on_strand(strand: u32, settings: Entered) -> Entered {
     Entered { strand, ..settings }
+}
+
+const fn with_mask(mask: u32, settings: Entered) -> Entered {
+    Entered { mask, ..settings }
 }
 
 fn answer(refusal: [u64; 3], tallies: [u64; 4]) -> Answer {
@@ -148,6 +158,31 @@ fn reverse_entries_are_turned_back_in_their_order() {
     });
 }
 
+/// P8 on one strand and on the other, with a masked letter that breaks in the place
+/// of its N, and with others masked that form.
+#[test]
+fn masked_letters_form_or_break() {
+    let p8 = |mask| (with_mask(mask, settings(2, 3, 3, 0)), [1, 2, 2, 1]);
+    for first in [b"ACaAC", b"ACgAC", b"ACnAC"] {
+        lists_one(p8(MASKED_BREAK), [first, b"AC"], [1, 5, 1, 2, 2, 0]);
+        lists_one(p8(MASKED_BREAK), [first, b"GT"], [1, 5, 1, 2, 2, 1]);
+    }
+    for first in [b"acnac", b"AcNaC"] {
+        lists_one(p8(MASKED_FORM), [first, b"aC"], [1, 5, 1, 2, 2, 0]);
+        lists_one(p8(MASKED_FORM), [first, b"Gt"], [1, 5, 1, 2, 2, 1]);
+    }
+    // GtGT turned round is ACaC, which has AC once where its mask is kept
+    let once = (p8(MASKED_BREAK).0, [1, 1, 1, 0]);
+    lists_one(once, [b"AC", b"GtGT"], [1, 2, 3, 4, 1, 1]);
+    with_library(|library| {
+        let both = on_strand(BOTH, p8(MASKED_BREAK).0);
+        for sequences in [["acnac", "AC"], ["AcNaC", "AC"], ["ACNAC", "aC"]] {
+            let given = compared(library, both, sequences.map(str::as_bytes), [8, 6]);
+            assert_eq!(given, (answer([0; 3], [0; 4]), vec![0; 8], vec![0; 6]));
+        }
+    });
+}
+
 #[test]
 fn no_letters_and_no_rooms() {
     with_library(|library| {
@@ -170,6 +205,9 @@ fn settings_outside_the_table_leave_the_rooms_untouched() {
             (on_strand(2, settings(1, 1, 1, 16_385)), 4),
             (on_strand(2, settings(1, 1, 1, 0)), 9),
             (on_strand(u32::MAX, settings(31, 1_024, 1_024, 16_384)), 9),
+            (with_mask(2, on_strand(2, settings(1, 1, 1, 0))), 9),
+            (with_mask(2, settings(1, 1, 1, 0)), 10),
+            (with_mask(u32::MAX, on_strand(BOTH, P1)), 10),
             (settings(u32::MAX, 1, 1, 0), 1),
         ];
         for (settings, number) in cases {
@@ -189,12 +227,13 @@ fn settings_outside_the_table_leave_the_rooms_untouched() {
 fn sequences_too_long_or_with_other_letters() {
     let (fits, over) = (vec![b'A'; 16_384], vec![b'A'; 16_385]);
     let bad = [b"ACGT".repeat(4_095), b"ACuT".to_vec()].concat();
-    let cases: [([&[u8]; 2], Answer); 6] = [
+    let cases: [([&[u8]; 2], Answer); 7] = [
         ([&over, &over], refused(5, 1, 0)),
         ([&bad, &over], refused(5, 2, 0)),
         ([&bad, b"Z"], refused(6, 1, 16_383)),
         ([&fits, b"ACZ-"], refused(6, 2, 3)),
-        ([b"", b"a"], refused(6, 2, 1)),
+        ([b"", b"o"], refused(6, 2, 1)),
+        ([b"acgtn", b"acgt\xE1"], refused(6, 2, 5)),
         ([&fits, &fits], answer([0; 3], [0; 4])),
     ];
     with_library(|library| {

@@ -1,10 +1,10 @@
-/* P1 and P4 of the document, forward and over both strands, and P1's done frame,
- * asked from C through the header alone. */
+/* P1 and P4 of the document, forward and over both strands, with the first two
+ * letters masked, and P1's done frame, asked from C through the header alone. */
 #include "hornbeamlet.h"
 
 #include <stdio.h>
 
-static const uint8_t first[] = {'A', 'C', 'C', 'G', 'T'};
+static const uint8_t first[] = {'a', 'c', 'C', 'G', 'T'};
 static const uint8_t second[] = {'A', 'C', 'G', 'G', 'T'};
 static uint32_t work[3 * HORNBEAMLET_RECORD];
 static uint32_t list[2 * HORNBEAMLET_ENTRY];
@@ -24,16 +24,16 @@ static void print_answer(const uint64_t answer[HORNBEAMLET_ANSWER])
         printf("%lu ", (unsigned long)answer[i]);
 }
 
-static uint64_t need(uint32_t k, uint32_t strand)
+static uint64_t need(uint32_t k, uint32_t strand, uint32_t mask)
 {
-    return hornbeamlet_need(k, 2, 8, 0, strand, first, sizeof first, second,
-                            sizeof second);
+    return hornbeamlet_need(k, 2, 8, 0, strand, mask, first, sizeof first,
+                            second, sizeof second);
 }
 
-static void compare(uint32_t strand, size_t work_len)
+static void compare(uint32_t strand, uint32_t mask, size_t work_len)
 {
     uint64_t answer[HORNBEAMLET_ANSWER];
-    hornbeamlet_compare(2, 2, 8, 0, strand, first, sizeof first, second,
+    hornbeamlet_compare(2, 2, 8, 0, strand, mask, first, sizeof first, second,
                         sizeof second, work, work_len, list,
                         2 * HORNBEAMLET_ENTRY, answer);
     print_answer(answer);
@@ -41,10 +41,10 @@ static void compare(uint32_t strand, size_t work_len)
     print_numbers(list, 2 * HORNBEAMLET_ENTRY);
 }
 
-static void stopped(uint32_t strand)
+static void stopped(uint32_t strand, uint32_t mask)
 {
     uint64_t answer[HORNBEAMLET_ANSWER];
-    hornbeamlet_stopped(2, 2, 8, 0, strand, first, sizeof first, second,
+    hornbeamlet_stopped(2, 2, 8, 0, strand, mask, first, sizeof first, second,
                         sizeof second, work, 24, 3, answer);
     print_answer(answer);
     printf("work");
@@ -78,16 +78,23 @@ static void done_frame(void)
 
 int main(void)
 {
-    printf("%lu %lu\n", (unsigned long)need(2, HORNBEAMLET_FORWARD),
-           (unsigned long)need(2, HORNBEAMLET_BOTH));
-    printf("%d %d\n", need(0, 2) == HORNBEAMLET_REFUSED + 1,
-           need(2, 2) == HORNBEAMLET_REFUSED + 9);
-    compare(HORNBEAMLET_FORWARD, 16);
-    compare(HORNBEAMLET_FORWARD, 15);
-    compare(HORNBEAMLET_BOTH, 24);
-    compare(HORNBEAMLET_BOTH, 23);
-    stopped(HORNBEAMLET_FORWARD);
-    stopped(HORNBEAMLET_REVERSE);
+    const uint32_t form = HORNBEAMLET_MASKED_FORM;
+    const uint32_t broken = HORNBEAMLET_MASKED_BREAK;
+    printf("%lu %lu %lu\n", (unsigned long)need(2, HORNBEAMLET_FORWARD, form),
+           (unsigned long)need(2, HORNBEAMLET_BOTH, form),
+           (unsigned long)need(2, HORNBEAMLET_BOTH, broken));
+    printf("%d %d %d\n", need(0, 2, 2) == HORNBEAMLET_REFUSED + 1,
+           need(2, 2, 2) == HORNBEAMLET_REFUSED + 9,
+           need(2, 1, 2) == HORNBEAMLET_REFUSED + 10);
+    compare(HORNBEAMLET_FORWARD, form, 16);
+    compare(HORNBEAMLET_FORWARD, form, 15);
+    compare(HORNBEAMLET_BOTH, form, 24);
+    compare(HORNBEAMLET_BOTH, form, 23);
+    compare(HORNBEAMLET_BOTH, broken, 24);
+    compare(HORNBEAMLET_BOTH, 2, 24);
+    stopped(HORNBEAMLET_FORWARD, form);
+    stopped(HORNBEAMLET_REVERSE, form);
+    stopped(HORNBEAMLET_REVERSE, broken);
     done_frame();
     return 0;
 }

@@ -5,8 +5,9 @@
 
 mod native;
 
-use hornbeamlet::{with_library, Entry, Listing, Refusal, Settings};
+use hornbeamlet::{with_library, Entry, Listing, Masked, Refusal, Settings};
 use native::{folder, top};
+use std::collections::BTreeSet;
 use std::fs;
 use std::path::{Path, PathBuf};
 use std::process::{Command, Output};
@@ -63,12 +64,8 @@ fn the_command_tells_bad_usage_and_bad_files() {
 #[test]
 fn the_module_lends_what_refusal_8_names() {
     let (first, second) = ("ACGTTGCA".repeat(90), "TGCAN".repeat(70));
-    let asked = format!(
-        "import hornbeamlet\n\
-         listing = hornbeamlet.compare('{first}', b'{second}', k=3, b=1, a=1024, m=0)\n\
-         print(*listing[:4], *(n for entry in listing.entries for n in entry))"
-    );
-    let Some(told) = python(&["-c".into(), asked.into()]) else {
+    let arguments = format!("'{first}', b'{second}', k=3, b=1, a=1024, m=0");
+    let Some(told) = module(&arguments) else {
         return;
     };
     let settings = Settings {
@@ -80,8 +77,61 @@ fn the_module_lends_what_refusal_8_names() {
     };
     let listing = listed(settings, first.as_bytes(), second.as_bytes()).unwrap();
     assert!(listing.entries.len() > 64);
+    assert_eq!(told, numbers(&listing));
+}
+
+#[test]
+fn the_module_takes_masked_letters_as_it_is_asked_to() {
+    let (first, second) = ("ACGTTGCAacgttgCAGGT", "ACGTTGCANACGTTG");
+    let arguments = format!("'{first}', '{second}', k=4, b=8, m=0");
+    let asked = [
+        (Masked::Form, ""),
+        (Masked::Form, ", mask=MASKED_FORM"),
+        (Masked::Break, ", mask=MASKED_BREAK"),
+    ];
+    let mut all_told = BTreeSet::new();
+    for (masked, mask) in asked {
+        let Some(told) = module(&(arguments.clone() + mask)) else {
+            return;
+        };
+        let settings = Settings {
+            k: 4,
+            b: 8,
+            m: 0,
+            masked,
+            ..Settings::default()
+        };
+        let listing = listed(settings, first.as_bytes(), second.as_bytes()).unwrap();
+        assert_eq!(told, numbers(&listing), "{masked}");
+        all_told.insert(told);
+    }
+    assert_eq!(all_told.len(), 2);
+}
+
+/// One that is none, and others whose lowest 32 bits are not what was asked for.
+#[test]
+fn the_module_tells_a_mask_setting_that_is_none() {
+    for mask in ["2", "-1", "2**32", "2**32 + 1"] {
+        let Some(told) = module(&format!("'A', 'A', mask={mask}")) else {
+            return;
+        };
+        assert_eq!(told, "refusal 10, sequence 0, detail 0\n");
+    }
+}
+
+/// What the module gives for these arguments, in one line.
+fn module(arguments: &str) -> Option<String> {
+    let asked = format!(
+        "from hornbeamlet import compare, Refused, MASKED_FORM, MASKED_BREAK
+try:
+    listing = compare({arguments})
+    print(*listing[:4], *(n for entry in listing.entries for n in entry))
+except Refused as refusal:
+    print(refusal)"
+    );
+    let told = python(&["-c".into(), asked.into()])?;
     assert_eq!(text(&told.stderr), "");
-    assert_eq!(text(&told.stdout), numbers(&listing));
+    Some(text(&told.stdout).to_string())
 }
 
 fn listed(settings: Settings, first: &[u8], second: &[u8]) -> Result<Listing, Refusal> {

@@ -32,8 +32,8 @@ fn small_jobs_agree_with_the_reference() {
     let jobs = setting("HORNBEAMLET_JOBS", 20_000);
     let seen = compare_jobs(jobs, jobs::small);
     if jobs >= 5_000 {
-        let compared: BTreeSet<u64> = (0..=9).collect();
-        let stopped: BTreeSet<u64> = (0..=7).chain([9, 19]).collect();
+        let compared: BTreeSet<u64> = (0..=10).collect();
+        let stopped: BTreeSet<u64> = (0..=7).chain([9, 10, 19]).collect();
         assert_eq!(seen, (compared, stopped), "some answers never came");
     }
 }
@@ -59,13 +59,12 @@ fn capped_jobs_agree_with_the_reference() {
 fn capped_jobs_have_totals_on_either_side_of_the_cap() {
     let mut ways = [0; 4];
     for seed in 1..=3_000 {
-        let Job {
-            settings: Settings { k, a, .. },
-            first,
-            second,
-        } = jobs::capped(&mut Random::new(seed));
-        let shared = first.windows(k as usize).filter(|it| !it.contains(&b'N'));
-        let totals = shared.map(|kmer| jobs::totals(kmer, [&first, &second]));
+        let job = jobs::capped(&mut Random::new(seed));
+        let (Settings { k, a, .. }, swept) = (job.settings, job.swept());
+        let rows = swept[0].windows(k as usize);
+        let totals = rows
+            .filter(|kmer| !kmer.contains(&b'N'))
+            .map(|kmer| jobs::totals(kmer, &swept));
         let totals: Vec<[usize; 2]> = totals.filter(|[_, columns]| *columns > 0).collect();
         let any = |test: fn(usize, usize, usize) -> bool| {
             let mut totals = totals.iter();
@@ -82,6 +81,24 @@ fn capped_jobs_have_totals_on_either_side_of_the_cap() {
         }
     }
     assert!(ways.iter().all(|&jobs| jobs >= 300), "{ways:?}");
+}
+
+/// What masked letters do is seen in many of the small jobs.
+#[test]
+fn the_mask_setting_decides_in_many_jobs() {
+    let decides = |&seed: &u64| {
+        let job = jobs::small(&mut Random::new(seed));
+        let needs = [0, 1].map(|mask| {
+            let settings = Settings {
+                mask,
+                ..job.settings
+            };
+            reference::need(settings, &job.first, &job.second)
+        });
+        needs[0] != needs[1]
+    };
+    let jobs = (1..=3_000).filter(decides).count();
+    assert!(jobs >= 300, "{jobs}");
 }
 
 fn setting(name: &str, default: u64) -> u64 {
@@ -197,7 +214,7 @@ impl Asked<'_> {
         let settings = self.job.settings;
         panic!(
             "HORNBEAMLET_SEED={} disagrees\n\
-             op={op} k={} b={} a={} m={} strand={} s={} t={}\n\
+             op={op} k={} b={} a={} m={} strand={} mask={} s={} t={}\n\
              library   {given:?}\nreference {expected:?}",
             self.seed,
             settings.k,
@@ -205,6 +222,7 @@ impl Asked<'_> {
             settings.a,
             settings.m,
             settings.strand,
+            settings.mask,
             self.job.first.escape_ascii(),
             self.job.second.escape_ascii(),
         );

@@ -2,7 +2,7 @@
 
 use crate::chains::{is_closed, sweep, Match};
 use crate::kmers::{count, matches, places, widest, Rows};
-use crate::letters::{first_bad_place, reverse_complement};
+use crate::letters::{first_bad_place, in_capitals, reverse_complement};
 use std::ops::RangeInclusive;
 
 /// "length of each sequence", 0 to 16,384 letters.
@@ -12,7 +12,8 @@ const RECORD: usize = 8;
 /// "List room now counts six numbers an entry."
 pub const ENTRY: usize = 6;
 /// What a reply over the C boundary adds to a refusal number: "4,294,967,296
-/// plus the refusal number 1 to 6", and 9 "also over the C boundary".
+/// plus the refusal number 1 to 6", 9 "also over the C boundary", and 10
+/// "wherever 9 is checked".
 pub(crate) const REFUSED_REPLY: u64 = 4_294_967_296;
 
 /// The strands, as the sixth number of an entry names them.
@@ -33,6 +34,8 @@ pub struct Settings {
     /// "0 forward, 1 both"; the stopped sweep names one strand, "0 forward or 1
     /// reverse".
     pub strand: u32,
+    /// "whether masked letters form k-mers (0) or break them as N does (1)".
+    pub mask: u32,
 }
 
 /// "The answer is a number, a sequence (0, 1 or 2), a detail, and four
@@ -79,7 +82,7 @@ fn refused(number: u64, sequence: u64, detail: u64) -> Answer {
 }
 
 /// The two sequences compared. "0 | done | 0, 0 | list: entries, then zeros;
-/// work: zeros". After 1 to 6 and 9 both rooms are "untouched", after 7 and 8
+/// work: zeros". After 1 to 6, 9 and 10 both rooms are "untouched", after 7 and 8
 /// "both all zeros".
 pub fn compare(
     settings: Settings,
@@ -121,7 +124,7 @@ pub fn stopped(
 }
 
 /// "how much work room is needed. The reply is W, or 4,294,967,296 plus the
-/// refusal number 1 to 6" or 9. Over both strands it is "the larger W".
+/// refusal number 1 to 6", 9 or 10. Over both strands it is "the larger W".
 pub fn need(settings: Settings, first: &[u8], second: &[u8]) -> u64 {
     match check_inputs(settings, first, second) {
         Err(refusal) => REFUSED_REPLY + refusal.number,
@@ -130,21 +133,23 @@ pub fn need(settings: Settings, first: &[u8], second: &[u8]) -> u64 {
 }
 
 /// "Checks go from 1 to 8 [...] and the first that applies is given, even if a
-/// later one also does." These are 1 to 6, which leave the rooms untouched, and
-/// "9, strand not 0 or 1, checked after 4".
+/// later one also does." These are 1 to 6, which leave the rooms untouched, "9,
+/// strand not 0 or 1, checked after 4", and "10, mask setting not 0 or 1, after 9".
 fn check_inputs(settings: Settings, first: &[u8], second: &[u8]) -> Result<(), Answer> {
     check_setting(1, settings.k, 1..=31)?;
     check_setting(2, settings.b, 1..=1_024)?;
     check_setting(3, settings.a, 1..=1_024)?;
     check_setting(4, settings.m, 0..=16_384)?;
     check_setting(9, settings.strand, FORWARD..=REVERSE)?;
+    check_setting(10, settings.mask, 0..=1)?;
     check_length(1, first)?;
     check_length(2, second)?;
     check_letters(1, first)?;
     check_letters(2, second)
 }
 
-/// "k, b, a, m outside the table", or "strand not 0 or 1".
+/// "k, b, a, m outside the table", "strand not 0 or 1", or "mask setting not 0 or
+/// 1".
 fn check_setting(number: u64, value: u32, accepted: RangeInclusive<u32>) -> Result<(), Answer> {
     if accepted.contains(&value) {
         Ok(())
@@ -222,14 +227,16 @@ struct Job {
 
 impl Job {
     /// "The reverse sweep is the base job on the first sequence and the reverse
-    /// complement of the second, with totals of its own."
+    /// complement of the second, with totals of its own." Either is swept "with the
+    /// capitals and this break" of the mask setting.
     fn new(settings: Settings, strand: u32, first: &[u8], second: &[u8]) -> Job {
         let k = settings.k as usize;
-        let swept = match strand {
+        let taken = match strand {
             REVERSE => reverse_complement(second),
             _ => second.to_vec(),
         };
-        let rows = matches(k, settings.a as usize, first, &swept);
+        let swept = [first, &taken].map(|it| in_capitals(settings.mask, it));
+        let rows = matches(k, settings.a as usize, &swept[0], &swept[1]);
         let widest = widest(&rows, settings.b as usize);
         Job {
             settings,

@@ -1,12 +1,22 @@
 //! One question a line and its answer, as written in the vectors' calls.
 //!
 //! The question: `op=compare`, `op=stopped` or `op=need`, the settings `k=`,
-//! `b=`, `a=`, `m=` and `strand=` (0 where it is not given), the sequences `s=`
-//! and `t=` (`-` is empty, `rep:UNIT:COUNT` a repeat), the rooms' lengths
-//! `work=` and `list=` in numbers, and the row `row=` of a stopped sweep.
+//! `b=`, `a=`, `m=`, `strand=` and `mask=` (these two 0 where they are not given),
+//! the sequences `s=` and `t=` (`-` is empty, `rep:UNIT:COUNT` a repeat), the
+//! rooms' lengths `work=` and `list=` in numbers, and the row `row=` of a stopped
+//! sweep.
 
 use crate::answers::{self, Answer, Settings};
+use std::fs;
+use std::path::Path;
 use std::str::FromStr;
+
+/// The vectors' calls, and how many lines each file has. The first is that of
+/// change request 2 without the fifteen lines that expect 6 for a letter in lower
+/// case, which change request 5 accepts; the second is that of change request 5.
+const STORED: [(&str, usize); 2] = [("calls.txt", 385), ("calls-cr5.txt", 400)];
+/// Their folder.
+const VECTORS: &str = concat!(env!("CARGO_MANIFEST_DIR"), "/tests/vectors");
 
 /// Whoever answers the three calls. The vectors are put to more than one.
 pub trait Calls {
@@ -80,6 +90,23 @@ pub fn answer_by(asked: &impl Calls, question: &str) -> Result<String, String> {
     }
 }
 
+/// Puts every stored question to whoever is asked.
+///
+/// # Panics
+///
+/// If one is not answered as it is written, or a file has not its lines.
+pub fn answers_as_stored(asked: &impl Calls) {
+    for (file, lines) in STORED {
+        let text = fs::read_to_string(Path::new(VECTORS).join(file)).expect(file);
+        assert_eq!(text.lines().count(), lines, "{file}");
+        for line in text.lines() {
+            let (question, expected) = line.split_once('\t').expect(line);
+            let given = answer_by(asked, question);
+            assert_eq!(given.as_deref(), Ok(expected), "{question}");
+        }
+    }
+}
+
 fn answer_compare(asked: &impl Calls, question: &str) -> Result<String, String> {
     let (settings, first, second) = job(question)?;
     let mut work = lent(number(question, "work")?);
@@ -119,6 +146,10 @@ fn number<T: FromStr>(question: &str, name: &str) -> Result<T, String> {
     parsed(name, field(question, name)?)
 }
 
+fn number_or_0(question: &str, name: &str) -> Result<u32, String> {
+    parsed(name, given(question, name).unwrap_or("0"))
+}
+
 fn parsed<T: FromStr>(name: &str, text: &str) -> Result<T, String> {
     text.parse()
         .map_err(|_| format!("{name}={text} is no number"))
@@ -130,7 +161,8 @@ fn job(question: &str) -> Result<(Settings, Vec<u8>, Vec<u8>), String> {
         b: number(question, "b")?,
         a: number(question, "a")?,
         m: number(question, "m")?,
-        strand: parsed("strand", given(question, "strand").unwrap_or("0"))?,
+        strand: number_or_0(question, "strand")?,
+        mask: number_or_0(question, "mask")?,
     };
     let first = sequence(field(question, "s")?)?;
     let second = sequence(field(question, "t")?)?;

@@ -1,11 +1,11 @@
 //! A separate reference for the chain listing, its rooms and its frames.
 //!
 //! It follows the words of the document "Build description and exact rules"
-//! (01-scope), of change requests 1, "Reverse strand", and 2, "Intervals that do
-//! go on" (02-change-requests), and keeps to the slow and obvious way: k-mers
-//! are compared as letters, all matches of a job are held at once, and every
-//! rule is looked up by walking the rows it speaks of. Comments in quotation
-//! marks are sentences of the two documents.
+//! (01-scope), of change requests 1, "Reverse strand", 2, "Intervals that do go
+//! on", and 5, "Soft-masked letters" (02-change-requests), and keeps to the slow
+//! and obvious way: k-mers are compared as letters, all matches of a job are held
+//! at once, and every rule is looked up by walking the rows it speaks of. Comments
+//! in quotation marks are sentences of the two documents.
 //!
 //! The rule on where records are kept from one match to the next binds the
 //! build this reference is compared with. Here only what the rooms hold

@@ -100,6 +100,8 @@ impl Input {
                 a: 0,
                 m: 0,
                 strand: 0,
+                // "a job frame means setting 0"
+                mask: 0,
             },
             first: Vec::new(),
             second: Vec::new(),
@@ -151,7 +153,14 @@ impl Input {
             }
         };
         let [k, b, a, m, strand] = values.map(|value| value as u32);
-        self.settings = Settings { k, b, a, m, strand };
+        self.settings = Settings {
+            k,
+            b,
+            a,
+            m,
+            strand,
+            ..self.settings
+        };
         Ok(())
     }
 }

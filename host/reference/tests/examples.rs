@@ -1,13 +1,19 @@
-//! The examples in the registry, P1 to P11, the boundaries named there, and the
-//! same on the reverse strand.
+//! The examples in the registry, P1 to P11, the boundaries named there, the same
+//! on the reverse strand, and with letters in lower case.
 
 use reference::{chain, compare, need, stopped, Answer, Settings};
 
 const STALE: u32 = 77;
 
 fn settings(k: u32, b: u32, a: u32, m: u32) -> Settings {
-    let strand = 0;
-    Settings { k, b, a, m, strand }
+    Settings {
+        k,
+        b,
+        a,
+        m,
+        strand: 0,
+        mask: 0,
+    }
 }
 
 /// The same settings with strand 1: both strands, or the reverse one where the
@@ -15,6 +21,14 @@ fn settings(k: u32, b: u32, a: u32, m: u32) -> Settings {
 fn strand_1(settings: Settings) -> Settings {
     Settings {
         strand: 1,
+        ..settings
+    }
+}
+
+/// The same settings with mask setting 1: masked letters break k-mers.
+fn mask_1(settings: Settings) -> Settings {
+    Settings {
+        mask: 1,
         ..settings
     }
 }
@@ -257,6 +271,7 @@ fn the_room_needed_or_the_refusal() {
     assert_eq!(need(settings(1, 1, 0, 0), b"", b""), base + 3);
     assert_eq!(need(settings(1, 1, 1, 16_385), b"", b""), base + 4);
     assert_eq!(need(strand_2(), b"x", &over), base + 9);
+    assert_eq!(need(mask_2(), b"x", &over), base + 10);
     assert_eq!(need(settings(1, 1, 1, 0), b"x", &over), base + 5);
     assert_eq!(need(settings(1, 1, 1, 0), b"", b"x"), base + 6);
     assert_eq!(need(settings(1, 1, 6, 0), b"AAA", b"AAA"), 6);
@@ -278,6 +293,28 @@ fn strand_2() -> Settings {
         strand: 2,
         ..settings(1, 1, 1, 0)
     }
+}
+
+/// A mask setting that is refused; all else is accepted.
+fn mask_2() -> Settings {
+    Settings {
+        mask: 2,
+        ..settings(1, 1, 1, 0)
+    }
+}
+
+#[test]
+fn a_mask_that_is_none_is_refused_after_the_strand_and_before_the_lengths() {
+    let over = vec![b'A'; 16_385];
+    let mut bad = example(mask_2(), b"x", &over);
+    bad.leaves_untouched(refused(10, 0, 0));
+    let mut work = vec![STALE; 9];
+    let held = stopped(bad.settings, b"x", &over, &mut work, 7);
+    assert_eq!((held, work), (refused(10, 0, 0), vec![STALE; 9]));
+    bad.settings.mask = u32::MAX;
+    bad.leaves_untouched(refused(10, 0, 0));
+    bad.settings.strand = 2;
+    bad.leaves_untouched(refused(9, 0, 0));
 }
 
 #[test]
@@ -376,6 +413,61 @@ fn the_stopped_sweep_of_the_reverse_strand() {
     assert_eq!(run(16), (done([2, 3, 2, 2]), records.to_vec()));
     assert_eq!(run(15), (refused(7, 0, 2), vec![0; 15]));
     assert_eq!(need(reverse, b"ACCGT", b"ACCGT"), 3);
+}
+
+#[test]
+fn masked_letters_form_kmers_as_their_capitals_do() {
+    let capitals = p1_on_both().run();
+    for (first, second) in [("accgt", "ACGGT"), ("ACCGT", "acggt"), ("AcCgT", "aCgGt")] {
+        let masked = example(p1_on_both().settings, first.as_bytes(), second.as_bytes());
+        assert_eq!(masked.run(), capitals);
+    }
+}
+
+#[test]
+fn masked_letters_break_kmers_as_n_does() {
+    // P8 and P9 with a masked letter in the place of N.
+    let p8 = mask_1(settings(2, 3, 3, 0));
+    let p9 = mask_1(settings(2, 2, 3, 0));
+    for first in [b"ACaAC", b"ACgAC", b"ACnAC", b"ACrAC"] {
+        example(p8, first, b"AC").gives(done([1, 2, 2, 1]), &[[1, 5, 1, 2, 2]]);
+        let entries = [[1, 2, 1, 2, 1], [4, 5, 1, 2, 1]];
+        example(p9, first, b"AC").gives(done([2, 2, 1, 0]), &entries);
+    }
+    for (first, second) in [("accgt", "ACGGT"), ("ACCGT", "acggt"), ("AcCgT", "ACGGT")] {
+        let masked = example(
+            mask_1(p1_on_both().settings),
+            first.as_bytes(),
+            second.as_bytes(),
+        );
+        masked.gives(done([0; 4]), &[]);
+    }
+}
+
+/// What breaks is not counted: three As in lower case leave a total of three.
+#[test]
+fn a_masked_kmer_is_not_counted_where_it_breaks() {
+    let with_cap = |a, mask| {
+        let settings = Settings {
+            mask,
+            ..settings(1, 1, a, 0)
+        };
+        example(settings, b"Aaaa", b"AA")
+    };
+    with_cap(3, 1).gives(done([1, 2, 2, 1]), &[[1, 1, 1, 2, 2]]);
+    with_cap(2, 1).gives(done([0; 4]), &[]);
+    with_cap(5, 0).gives(done([0; 4]), &[]);
+}
+
+#[test]
+fn turning_round_keeps_the_mask() {
+    // AcNGt turned round is aCNgT: A and G form k-mers on the one strand, their
+    // complements on the other.
+    let turned = mask_1(strand_1(settings(1, 1, 9, 0)));
+    let forward = [[1, 1, 1, 1, 1], [3, 3, 4, 4, 1]];
+    let reverse = [[2, 2, 4, 4, 1], [4, 4, 1, 1, 1]];
+    let answer = done([4, 4, 1, 0]);
+    example(turned, b"ACGT", b"AcNGt").gives_both(answer, &forward, &reverse);
 }
 
 const P1_INPUT: &str = "010702000200080000EC\n020312248045\n030312448024\n0400FC\n";

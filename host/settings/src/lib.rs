@@ -26,6 +26,11 @@ pub const BOTH: u32 = 1;
 /// The strand setting of `stopped` for the second sequence turned round.
 pub const REVERSE: u32 = 1;
 
+/// The mask setting with which masked letters form k-mers, as their capitals do.
+pub const MASKED_FORM: u32 = 0;
+/// The mask setting with which masked letters break k-mers, as N does.
+pub const MASKED_BREAK: u32 = 1;
+
 /// The strands that are compared.
 #[derive(Clone, Copy, Debug, PartialEq, Eq)]
 pub enum Strands {
@@ -42,6 +47,15 @@ pub enum Strand {
     Forward,
     /// Turned round: read from its end, each letter as its complement.
     Reverse,
+}
+
+/// What masked letters do: those in lower case, as repeats are delivered.
+#[derive(Clone, Copy, Debug, PartialEq, Eq)]
+pub enum Masked {
+    /// They form k-mers, as their capitals do.
+    Form,
+    /// They break k-mers, as N does.
+    Break,
 }
 
 impl Display for Strands {
@@ -62,6 +76,15 @@ impl Display for Strand {
     }
 }
 
+impl Display for Masked {
+    fn fmt(&self, to: &mut Formatter) -> fmt::Result {
+        to.pad(match self {
+            Masked::Form => "form",
+            Masked::Break => "break",
+        })
+    }
+}
+
 /// The settings of a job, by default those of the command `annex`.
 #[derive(Clone, Copy, Debug, PartialEq, Eq)]
 pub struct Settings {
@@ -75,13 +98,16 @@ pub struct Settings {
     pub m: u32,
     /// The strands.
     pub strand: Strands,
+    /// What masked letters do.
+    pub masked: Masked,
 }
 
 /// With k 13 two unrelated sequences of this size hardly ever have a clause, and
 /// with k 11 most of the longest do; 300 steps over the usual insertions; a k-mer
 /// seen more than 20 times tells nothing about where it belongs. Both strands,
 /// since half the references are stored turned round: whoever does not know which
-/// would read an empty listing as nothing shared.
+/// would read an empty listing as nothing shared. Masked letters form k-mers for the
+/// same reason, and the repeat cap is there for those that occur too often.
 impl Default for Settings {
     fn default() -> Settings {
         Settings {
@@ -90,6 +116,7 @@ impl Default for Settings {
             a: 20,
             m: 100,
             strand: Strands::Both,
+            masked: Masked::Form,
         }
     }
 }
@@ -121,16 +148,27 @@ pub struct Entered {
     /// The strand: [`FORWARD`] or [`BOTH`], and [`FORWARD`] or [`REVERSE`] for
     /// the stopped sweep.
     pub strand: u32,
+    /// The mask setting: [`MASKED_FORM`] or [`MASKED_BREAK`].
+    pub mask: u32,
 }
 
 impl From<Settings> for Entered {
     fn from(settings: Settings) -> Entered {
-        let Settings { k, b, a, m, strand } = settings;
-        let strand = match strand {
-            Strands::Forward => FORWARD,
-            Strands::Both => BOTH,
-        };
-        Entered { k, b, a, m, strand }
+        let Settings { k, b, a, m, .. } = settings;
+        Entered {
+            k,
+            b,
+            a,
+            m,
+            strand: match settings.strand {
+                Strands::Forward => FORWARD,
+                Strands::Both => BOTH,
+            },
+            mask: match settings.masked {
+                Masked::Form => MASKED_FORM,
+                Masked::Break => MASKED_BREAK,
+            },
+        }
     }
 }
 
@@ -155,5 +193,17 @@ mod tests {
         assert_eq!(Entered::from(forward).strand, 0);
         assert_eq!(settings.on(Strand::Forward).strand, 0);
         assert_eq!(forward.on(Strand::Reverse).strand, 1);
+    }
+
+    #[test]
+    fn what_masked_letters_do_crosses_as_its_number() {
+        let settings = Settings::default();
+        let breaking = Settings {
+            masked: Masked::Break,
+            ..settings
+        };
+        assert_eq!(Entered::from(settings).mask, 0);
+        assert_eq!(Entered::from(breaking).mask, 1);
+        assert_eq!(breaking.on(Strand::Reverse).mask, 1);
     }
 }

@@ -1,5 +1,6 @@
 -- `accepted::compare_coded` meets its contract: the job on the walks of both strands is the job on their matches. Assumes nothing.
-use mathlib.Core.Path.{refl}
+use mathlib.Core.Path.{sym}
+use Rattle.rules.proofs.Masks.{read-length}
 use Rattle.accepted.proofs.Walking.{blank, both-walks, walks-fit, compares}
 use borrow.Author.Needs.{needs}
 use Rattle.accepted.proofs.compare_coded.Statement.{statement}
@@ -22,7 +23,9 @@ returns : tie.Need-returns
 returns c =
     let j = c .before .before .before .before in
     let b = matched (j .before .before .before .before .before) in
-    compares (both-walks (start b .pre) (b .both .ensures)) _ _ refl (j .compare-matches .ensures)
+    let a = start b .args in
+    let letters = sym (read-length (a .c .mask) (a .second .now)) in
+    compares (both-walks (start b .pre) (b .both .ensures)) _ _ letters (j .compare-matches .ensures)
 
 slice-aggregate-compare-matches : tie.Need-slice-aggregate-compare-matches
 slice-aggregate-compare-matches c =

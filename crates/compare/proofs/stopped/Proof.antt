@@ -23,7 +23,7 @@ returns c =
 
 -- where the first sequence is coded, the job is ready
 ready : (p : tie.After-code-all)
-    → let a = entry p .args in Coded (a .settings) (a .first .now) (a .second .now) (p .code-all .last .1 .1 .0) (p .code-all .result)
+    → let a = entry p .args in Coded (a .settings) (a .first .now) (a .second .now) (p .code-all .last .1 .1 .1 .0) (p .code-all .result)
 ready p =
     record {
       passed = number-passes (checking p .check .ensures) (p .before .before .if1 .left);

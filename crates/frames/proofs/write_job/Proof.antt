@@ -26,14 +26,14 @@ first v = second v .before
 -- the job of these is the one that is wanted
 abbrev job : tie.After-value5 → Wanted
 job v =
-    let c = settings (first v .value .result) (second v .value2 .result) (third v .value3 .result) (fourth v .value4 .result) (v .value5 .result) in
+    let c = settings (first v .value .result) (second v .value2 .result) (third v .value3 .result) (fourth v .value4 .result) (v .value5 .result) 0 in
     record { fits = jobFits c; line = jobLine c }
 
 is-wanted : (v : tie.After-value5) → jobWanted (first v .before .before .before .args .values .now) ≡ job v
 unfolding jobOf jobWanted
 is-wanted v =
     let job-of : (k b a m strand : ℕ) → Wanted = λ k b a m strand.
-    record { fits = jobFits (settings k b a m strand); line = jobLine (settings k b a m strand) } in
+    record { fits = jobFits (settings k b a m strand 0); line = jobLine (settings k b a m strand 0) } in
     λ i. job-of (sym (first v .value .ensures) i) (sym (second v .value2 .ensures) i) (sym (third v .value3 .ensures) i) (sym (fourth v .value4 .ensures) i)
     (sym (v .value5 .ensures) i)
 

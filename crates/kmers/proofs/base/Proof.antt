@@ -7,11 +7,11 @@ use Rattle.kmers.proofs.base.Tie as tie
 
 returns-2 : tie.Need-returns-2
 unfolding baseWith
-returns-2 c = base-none (c .before .args .letter) (search needs) (c .if1 .left)
+returns-2 c = let s = c .before in base-none (s .args .letter) (search needs) (s .args .mask) (s .pre) (c .if1 .left)
 
 returns : tie.Need-returns
 unfolding baseWith
-returns c = base-is (c .before .args .letter) (search needs) (c .if1 .taken)
+returns c = let s = c .before in base-is (s .args .letter) (search needs) (s .args .mask) (s .pre) (c .if1 .taken)
 
 mul-expected : tie.Need-mul-expected
 unfolding twoOf

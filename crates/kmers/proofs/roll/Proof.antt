@@ -1,4 +1,4 @@
--- The mask of k bases keeps the remainder by 2 ^ (2 * k). Assumes nothing.
+-- The bits of k bases keep the remainder by 2 ^ (2 * k). Assumes nothing.
 use borrow.Author.Needs.{needs}
 use Prim.Native.Nat.{_*_}
 use lib.Bits.{and-mask}

@@ -1,13 +1,14 @@
 -- The table that it lays out is the list of the codes of the capitals. Assumes nothing.
+use mathlib.Core.Path.{_∙_}
 use borrow.Author.Needs.{needs}
-use mathlib.Core.Path.{refl}
 use Rattle.letters.specs.Capitals.{capitalCodes}
+use Rattle.letters.proofs.Capitals.{folded, coded-right}
 use Rattle.letters.proofs.code.Statement.{statement}
 use Rattle.letters.proofs.code.Tie as tie
 
-code-in-requires : tie.Need-code-in-requires
-unfolding capitalCodes
-code-in-requires c κs = refl
+returns : tie.Need-returns
+unfolding capitalCodes folded
+returns c = c .at-capital .ensures ∙ coded-right _ (search needs)
 
 pub code-spec : {M : Type 1} → statement M
-code-spec = tie.close (tie.spec code-in-requires (λ c. search needs))
+code-spec = tie.close (tie.spec (λ c κs. search needs) returns)

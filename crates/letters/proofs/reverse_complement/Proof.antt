@@ -4,21 +4,20 @@ use mathlib.Core.Path.{refl}
 use Prim.Native.Nat.{_-_}
 use native.Mathlib.Omega.{arith}
 use lib.ListN.{length}
-use Rattle.rules.specs.Letters.{letterTable}
-use Rattle.letters.specs.Capitals.{capitalCodes}
+use Rattle.letters.specs.Capitals.{capitalComplements}
 use Rattle.letters.proofs.Complements.{Turning, turning-long, turning-start, turning-next, turning-end}
 use Rattle.letters.proofs.reverse_complement.Statement.{statement}
 use Rattle.letters.proofs.reverse_complement.Tie as tie
 
 abbrev Inv-loop : tie.InvT-loop
-Inv-loop s out₀ codes letters turned₀ out turned = Turning s out₀ out turned
+Inv-loop s out₀ complements turned₀ out turned = Turning s out₀ out turned
 
 abbrev μ-loop : tie.MeasureT-loop
-μ-loop s out₀ codes letters turned₀ out turned = length s - turned
+μ-loop s out₀ complements turned₀ out turned = length s - turned
 
 -- the turn of the loop, and the state in which it began
 abbrev in-loop : tie.After-complement-in Inv-loop μ-loop → tie.In-loop Inv-loop μ-loop
-in-loop c = c .before .before .before .before
+in-loop c = c .before .before .before
 
 abbrev at-loop : tie.After-complement-in Inv-loop μ-loop → tie.At-loop Inv-loop μ-loop
 at-loop c = in-loop c .before
@@ -27,8 +26,8 @@ loop-holds : tie.Need-loop-holds Inv-loop μ-loop
 loop-holds c = turning-start _ _ (c .before .before .pre)
 
 complement-in-requires : tie.Need-complement-in-requires Inv-loop μ-loop
-unfolding capitalCodes letterTable
-complement-in-requires c κs = (refl, refl)
+unfolding capitalComplements
+complement-in-requires c κs = refl
 
 slice-write-out : tie.Need-slice-write-out Inv-loop μ-loop
 slice-write-out c =

@@ -36,6 +36,9 @@ start4 q = start3 (q .before .before)
 abbrev start5 : tie.Else5 → tie.Start
 start5 q = start4 (q .before .before)
 
+abbrev start6 : tie.Else6 → tie.Start
+start6 q = start5 (q .before .before)
+
 -- there the earlier checks do not apply
 past-1 : (q : tie.Else1) → asked (start1 q) ≡ beyond 1 (start1 q)
 unfolding settingsChecks
@@ -56,6 +59,10 @@ past-4 q = past-3 (q .before .before) ∙ passes-on _ _ _ (sym (q .before .is-ou
 past-5 : (q : tie.Else5) → asked (start5 q) ≡ beyond 5 (start5 q)
 unfolding settingsChecks
 past-5 q = past-4 (q .before .before) ∙ passes-on _ _ _ (sym (q .before .is-outside5 .ensures) ∙ q .if5 .left)
+
+past-6 : (q : tie.Else6) → asked (start6 q) ≡ beyond 6 (start6 q)
+unfolding settingsChecks
+past-6 q = past-5 (q .before .before) ∙ passes-on _ _ _ (sym (q .before .is-outside6 .ensures) ∙ q .if6 .left)
 
 returns : tie.Need-returns
 unfolding settingsChecks
@@ -88,8 +95,14 @@ returns-5 c =
     c .refuse5 .ensures ∙ sym (past-4 (h .before) ∙ applies _ _ _ (sym (h .is-outside5 .ensures) ∙ c .before .if5 .taken))
 
 returns-6 : tie.Need-returns-6
+unfolding settingsChecks
+returns-6 c =
+    let h = c .before .before in
+    c .refuse6 .ensures ∙ sym (past-5 (h .before) ∙ applies _ _ _ (sym (h .is-outside6 .ensures) ∙ c .before .if6 .taken))
+
+returns-7 : tie.Need-returns-7
 unfolding settingsChecks firstOf
-returns-6 c = c .refuse6 .ensures ∙ sym (past-5 (c .before))
+returns-7 c = c .refuse7 .ensures ∙ sym (past-6 (c .before))
 
 pub check-settings-spec : {M : Type 1} → statement M
 check-settings-spec =
@@ -111,4 +124,7 @@ check-settings-spec =
     (λ c κs. search needs)
     returns-5
     (λ c κs. search needs)
-    returns-6)
+    (λ c κs. search needs)
+    returns-6
+    (λ c κs. search needs)
+    returns-7)

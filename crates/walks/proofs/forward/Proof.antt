@@ -4,9 +4,11 @@ use mathlib.Core.List.{List}
 use Prim.Native.Nat.{ℕ, _≤_}
 use native.Mathlib.Omega.{arith}
 use lib.ListN.{length, take, length-append}
+use Rattle.rules.specs.Letters.{asRead}
 use Rattle.rules.specs.Places.{places}
 use Rattle.rules.specs.Codes.{codes}
 use Rattle.rules.proofs.Kmers.{codes-length}
+use Rattle.rules.proofs.Masks.{read-places}
 use Rattle.kmers.proofs.Codes.{codes-front, places-few}
 use Rattle.nexts.specs.Nexts.{NextColumns}
 use Rattle.matches.specs.Columns.{FirstColumns}
@@ -18,24 +20,31 @@ use Rattle.walks.proofs.forward.Tie as tie
 abbrev start : tie.After-code-all → tie.Start
 start p = p .before .before .before .before .before .before
 
-columns-are : (p : tie.After-code-all) → p .code-all .result ≡ places (start p .args .c .k) (start p .args .second .now)
-columns-are p = p .code-all .ensures .0
+-- the second sequence as it is read
+abbrev read : tie.After-code-all → List ℕ
+read p = let a = start p .args in asRead (a .c .mask) (a .second .now)
+
+columns-are : (p : tie.After-code-all) → p .code-all .result ≡ places (start p .args .c .k) (read p)
+columns-are p = let a = start p .args in p .code-all .ensures .0 ∙ sym (read-places (a .c .mask) (a .c .k) (a .second .now))
 
 -- what stands in front of the array
-codes-are : (p : tie.After-code-all) → take (p .code-all .result) (p .code-all .last .1 .1 .0) ≡ codes (start p .args .c .k) (start p .args .second .now)
-codes-are p = codes-front (start p .args .c .k) (start p .args .second .now) _ (columns-are p) (p .code-all .ensures .1)
+codes-are : (p : tie.After-code-all) → take (p .code-all .result) (p .code-all .last .1 .1 .1 .0) ≡ codes (start p .args .c .k) (read p)
+codes-are p = codes-front (start p .args .c .k) (read p) _ (columns-are p) (p .code-all .ensures .1)
 
-codes-long : (p : tie.After-code-all)
-    → length (take (p .code-all .result) (p .code-all .last .1 .1 .0)) ≡ places (start p .args .c .k) (start p .args .second .now)
-codes-long p = ap length (codes-are p) ∙ codes-length (start p .args .c .k) (start p .args .second .now)
+codes-long : (p : tie.After-code-all) → length (take (p .code-all .result) (p .code-all .last .1 .1 .1 .0)) ≡ places (start p .args .c .k) (read p)
+codes-long p = ap length (codes-are p) ∙ codes-length (start p .args .c .k) (read p)
 
-few : (p : tie.After-code-all) → places (start p .args .c .k) (start p .args .second .now) ≤ 16384
-few p = let s = start p in places-few (s .args .c .k) (s .args .second .now) (s .pre .0 .some-base) (s .pre .0 .short-second)
+few : (p : tie.After-code-all) → places (start p .args .c .k) (read p) ≤ 16384
+few p =
+    let s = start p in
+    let a = s .args in
+    let f = s .pre .0 in
+    rw (read-places (a .c .mask) (a .c .k) (a .second .now)) (places-few (a .c .k) (a .second .now) (f .some-base) (f .short-second))
 
 array-share-prefix-codes : tie.Need-array-share-prefix-codes
 array-share-prefix-codes c =
     let a = start c .args in
-    omega (arith, columns-are c, simp length-append at (ap length (c .code-all .ensures .1)), codes-length (a .c .k) (a .second .now))
+    omega (arith, columns-are c, simp length-append at (ap length (c .code-all .ensures .1)), codes-length (a .c .k) (read c))
 
 slice-aggregate-find-matches : tie.Need-slice-aggregate-find-matches
 slice-aggregate-find-matches c = let p = c .before in columns-are p ∙ sym (codes-long p)

@@ -34,13 +34,13 @@ pub fn annex() -> Vec<Fact> {
 
 /// The settings.
 pub fn settings(settings: Settings) -> Vec<Fact> {
-    let Settings { k, b, a, m, strand } = settings;
     vec![
-        number("k", k.into()),
-        number("b", b.into()),
-        number("a", a.into()),
-        number("m", m.into()),
-        text("strand", &strand.to_string()),
+        number("k", settings.k.into()),
+        number("b", settings.b.into()),
+        number("a", settings.a.into()),
+        number("m", settings.m.into()),
+        text("strand", &settings.strand.to_string()),
+        text("masked", &settings.masked.to_string()),
     ]
 }
 
@@ -50,6 +50,7 @@ pub fn sequence(it: &Sequence) -> Vec<Fact> {
         text("name", &it.record.name),
         text("file", &it.record.file),
         count("letters", it.record.letters.len()),
+        count("masked", it.masked),
         text("sha256", &it.digest),
     ]
 }

@@ -30,8 +30,12 @@ pub fn render(report: &Report) -> String {
 /// Who is who, and the SHA-256 of its letters.
 fn sequence(which: &str, it: &Sequence) -> String {
     let letters = numbers::letters(it.record.letters.len());
+    let masked = match it.masked {
+        0 => "none".to_string(),
+        some => grouped(some as u64),
+    };
     let (name, file, digest) = (&it.record.name, &it.record.file, &it.digest);
-    format!("{which}: {name}, {letters}, in {file}\n  SHA-256 {digest}\n")
+    format!("{which}: {name}, {letters}, {masked} masked, in {file}\n  SHA-256 {digest}\n")
 }
 
 fn comparison(report: &Report, it: &Comparison) -> String {
@@ -72,10 +76,10 @@ fn summary(report: &Report) -> String {
 
 /// The settings, and the tallies beside them.
 fn settings_and_tallies(settings: Settings, answer: Answer) -> String {
-    let Settings { k, b, a, m, strand } = settings;
+    let Settings { k, b, a, m, .. } = settings;
     let [k, b, a, m] = [k, b, a, m].map(|number| grouped(u64::from(number)));
-    let strand = strand.to_string();
-    let [k, b, a, m, strand] = aligned([k, b, a, m, strand]);
+    let (strand, masked) = (settings.strand.to_string(), settings.masked.to_string());
+    let [k, b, a, m, strand, masked] = aligned([k, b, a, m, strand, masked]);
     let tallies = [answer.listed, answer.matches, answer.widest, answer.links];
     let [listed, matches, widest, links] = aligned(tallies.map(grouped));
     format!(
@@ -84,6 +88,7 @@ fn settings_and_tallies(settings: Settings, answer: Answer) -> String {
   repeat cap    a  {a}    widest window  W  {widest}
   least span    m  {m}    links             {links}
   strand           {strand}
+  masked letters   {masked}
 "
     )
 }

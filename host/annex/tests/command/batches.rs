@@ -61,12 +61,12 @@ fn one_dash_is_standard_input() {
     assert_eq!((second.status, second.complaints.as_str()), (0, ""));
     assert!(second
         .output
-        .contains("\nSecond: one, 5 letters, in standard input\n"));
+        .contains("\nSecond: one, 5 letters, none masked, in standard input\n"));
     assert_eq!(listing(&second.output), listing(&named));
     let first = folder.fed(&format!("{P1} - one.fa"), b"ACCGT");
     assert!(first
         .output
-        .contains("\nFirst: standard-input, 5 letters, in standard input\n"));
+        .contains("\nFirst: standard-input, 5 letters, none masked, in standard input\n"));
     assert_eq!(listing(&first.output), listing(&named));
     let empty = folder.fed("first.fa -", b"");
     assert!(empty

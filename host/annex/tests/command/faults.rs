@@ -40,6 +40,14 @@ fn every_fault_of_the_command_line() {
             "--strand needs forward or both after it".to_string(),
         ),
         (
+            "--masked soft p5.txt p5.txt",
+            "--masked needs form or break, not 'soft'".to_string(),
+        ),
+        (
+            "p5.txt p5.txt --masked",
+            "--masked needs form or break after it".to_string(),
+        ),
+        (
             "--tsv --json p5.txt p5.txt",
             "only one of --tsv, --json and --paf can be had at once".to_string(),
         ),

@@ -37,10 +37,32 @@ fn the_repositorys_own_example() {
     assert_eq!(output, golden("turned.txt"));
 }
 
+/// The middle of the first sequence is masked: it lies within one clause, or between
+/// two.
+#[test]
+fn a_pair_with_masked_letters() {
+    let folder = Folder::new(
+        "masked",
+        &[
+            (
+                "strain.fa",
+                b">strain\nGATTACAGGC\nggatcacagt\nCTACACTGCT\n",
+            ),
+            (
+                "reference.fa",
+                b">reference\nGATTACAGGCGGATCACAGTCTACACTgct\n",
+            ),
+        ],
+    );
+    let line = "-k 5 -b 5 -m 0 strain.fa reference.fa";
+    in_all_formats(&folder, line, "masked-form");
+    in_all_formats(&folder, &format!("{line} --masked break"), "masked-break");
+}
+
 /// A batch of every outcome: clauses, none for each reason, and refusals.
 #[test]
 fn a_batch_of_every_outcome() {
-    let seconds = b">one\nACGGT\n>two with lower case\nACG\nGt\n>three\nACCGT\n>four\n\
+    let seconds = b">one\nACGGT\n>two of RNA\nACG\nGU\n>three\nACCGT\n>four\n\
                     >five\nA\n>six\nNNANN\n>one\nTTTT\n";
     let folder = Folder::new(
         "records",
@@ -53,8 +75,8 @@ fn a_batch_of_every_outcome() {
 annex: warning: record 4, four, on line 8 of second.fa, has a name and no letters; \
 what stands on a name line is not read as letters
 annex: warning: records 1, 7 have the same name, one; their numbers tell them apart
-annex: refused, number 6: record 2, two, has the letter 't' at place 5, on line 5 of second.fa; \
-lower case is not accepted, capitals are
+annex: refused, number 6: record 2, two, has the letter 'U' at place 5, on line 5 of second.fa; \
+RNA is not accepted; write T for each U and t for each u
 ";
     assert_eq!((run.status, run.complaints.as_str()), (1, complaints));
 }
@@ -64,7 +86,8 @@ fn the_help_page() {
     let folder = examples("help");
     let page = folder.done("--help");
     assert!(page.starts_with("annex: ") && page.contains("-k N"));
-    assert!(page.contains("--strand forward|both") && page.contains("--version"));
+    assert!(page.contains("--strand forward|both") && page.contains("--masked form|break"));
+    assert!(page.contains("--version"));
     assert_eq!(folder.done("p5.txt -h"), page);
 }
 

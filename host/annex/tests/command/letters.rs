@@ -15,6 +15,7 @@ fn odd(test: &str) -> Folder {
             ("one.fa", b">one\nA\n"),
             ("all-n.fa", b">all-n\nNNNNNNNNNNNNNNNNNNNN\n"),
             ("broken.fa", b">broken\nACCGTNACCGTNACCGTNACCGT\n"),
+            ("masked.fa", b">masked\nACCGTACCGTAcCGTACCGTACCGT\n"),
         ],
     )
 }
@@ -60,6 +61,31 @@ fn a_sequence_without_a_kmer_has_a_sentence_of_its_own() {
     let neither =
         format!("the first sequence, cut, has no letters; {second}, name, has no letters");
     told(&folder, "-k 1 -b 1 -a 1 -m 0 cut.fa name.fa", &neither);
+}
+
+/// A masked base breaks a k-mer where it is to, and that is said where nothing else
+/// does.
+#[test]
+fn a_sequence_without_a_kmer_that_is_not_masked_has_its_own_sentence() {
+    let folder = odd("no-unmasked-kmer");
+    let bases = "has no 14 letters in a row that are A, C, G or T";
+    let line = "-k 14 --masked break good.fa";
+    told(
+        &folder,
+        &format!("{line} masked.fa"),
+        &format!(
+            "the second sequence, masked, {bases} and not masked, so no k-mer (--masked break)"
+        ),
+    );
+    told(
+        &folder,
+        &format!("{line} broken.fa"),
+        &format!("the second sequence, broken, {bases}, so no k-mer"),
+    );
+    let formed = folder.done("-k 14 -m 0 good.fa masked.fa");
+    assert!(formed.contains("\n  masked letters   form\n") && !formed.contains("No clause"));
+    let enough = folder.done("-k 13 -m 0 --masked break good.fa masked.fa");
+    assert!(enough.contains("\n  masked letters   break\n") && !enough.contains("No clause"));
 }
 
 #[test]

@@ -8,6 +8,7 @@ mod faults;
 mod formats;
 mod json;
 mod letters;
+mod masked;
 mod paf;
 mod provenance;
 mod refusals;

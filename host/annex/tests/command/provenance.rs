@@ -42,13 +42,13 @@ fn every_format_names_what_was_compared() {
     let folder = examples("named");
     for format in ["", "--tsv", "--json", "--paf"] {
         let output = folder.done(&format!("{P1} p1-first.fa p1-second.fa {format}"));
-        for word in [VERSION, KIT, "p1-first.fa", "p1-second.fa", "both"] {
+        for word in [VERSION, KIT, "p1-first.fa", "p1-second.fa", "both", "form"] {
             assert!(output.contains(word), "{format}: {word}");
         }
     }
     for format in ["--tsv", "--paf"] {
         let output = folder.done(&format!("{P1} p1-first.fa p1-second.fa {format}"));
-        let settings = r#"{"k":2,"b":2,"a":8,"m":0,"strand":"both"}"#;
+        let settings = r#"{"k":2,"b":2,"a":8,"m":0,"strand":"both","masked":"form"}"#;
         assert!(output.contains(&format!("\n#settings {settings}\n")));
     }
 }

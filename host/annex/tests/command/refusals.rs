@@ -9,9 +9,10 @@ fn sequences(test: &str) -> Folder {
         &[
             ("a.txt", b"ACGT"),
             ("long.fa", &[b">x\n", long.as_slice()].concat()),
-            ("lower.fa", b">y\r\nACGT\r\n\r\nACgT\r\n"),
+            ("protein.fa", b">y\r\nACGT\r\n\r\nACeT\r\n"),
             ("rna.txt", b"ACGU"),
-            ("lower-rna.txt", b"ACGu"),
+            ("lower-rna.txt", b"acgu"),
+            ("latin-1.txt", b"acgt\xE1"),
             ("gap.txt", b"ACGT\nA-GT"),
             ("blank.txt", b"ACGT ACGT"),
             ("hidden.fa", ">z\nAC\u{200b}GT\n".as_bytes()),
@@ -55,31 +56,39 @@ fn refusals_of_settings() {
 #[test]
 fn refusals_of_sequences() {
     let folder = sequences("sequences");
-    let u = "neither u nor U is accepted; write T for each, a capital";
-    let letters = "the letters are ABCDGHKMNRSTVWY; take out what is none";
+    let rna = "RNA is not accepted; write T for each U and t for each u";
+    let letters = "the letters are ABCDGHKMNRSTVWY, capital or lower case; take out what is none";
     let long = "x, on line 1 of long.fa, has 16,385 letters; at most 16,384 are accepted, \
                 so compare it in parts";
     for (line, words) in [
         ("long.fa rna.txt", format!("5: the first sequence, {long}")),
         ("rna.txt long.fa", format!("5: the second sequence, {long}")),
         (
-            "lower.fa a.txt",
-            "6: the first sequence, y, has the letter 'g' at place 7, on line 4 of lower.fa; \
-             lower case is not accepted, capitals are"
+            "protein.fa a.txt",
+            "6: the first sequence, y, has the letter 'e' at place 7, on line 4 of protein.fa; \
+             the letters of nucleotides are ABCDGHKMNRSTVWY, capital or lower case; \
+             is this a protein?"
                 .to_string(),
         ),
         (
             "a.txt rna.txt",
             format!(
                 "6: the second sequence, rna.txt, has the letter 'U' at place 4, on line 1 of \
-                 rna.txt; {u}"
+                 rna.txt; {rna}"
             ),
         ),
         (
             "a.txt lower-rna.txt",
             format!(
                 "6: the second sequence, lower-rna.txt, has the letter 'u' at place 4, on line 1 \
-                 of lower-rna.txt; {u}"
+                 of lower-rna.txt; {rna}"
+            ),
+        ),
+        (
+            "latin-1.txt a.txt",
+            format!(
+                "6: the first sequence, latin-1.txt, has the byte E1 at place 5, on line 1 of \
+                 latin-1.txt; {letters}"
             ),
         ),
         (

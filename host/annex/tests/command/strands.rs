@@ -32,7 +32,7 @@ fn a_turned_reference_is_listed_as_reverse() {
         ["strain\t10\t0\t10\t-\tturned\t13\t1\t11\t6\t10\t255\tcm:i:6\tcl:i:1\trc:i:1"]
     );
     let json = done("--json");
-    assert!(json.contains(r#""settings":{"k":5,"b":5,"a":20,"m":0,"strand":"both"},"#));
+    assert!(json.contains(r#""settings":{"k":5,"b":5,"a":20,"m":0,"strand":"both","#));
     assert!(
         json.contains(r#""clauses":[{"clause":1,"first_start":1,"first_end":10,"second_start":2,"#)
     );

@@ -4,19 +4,22 @@ use crate::native::top;
 use std::path::{Path, PathBuf};
 use std::process::Command;
 
-/// The P1 and P4 of the document, asked from C.
+/// The P1 and P4 of the document, asked from C, with letters in lower case.
 pub const DOCUMENT: &str = "host/hornbeamlet/tests/header.c";
 
 /// What that program prints.
 pub const ANSWERS: &str = "\
-2 3
-1 1
+2 3 2
+1 1 1
 0 0 0 1 3 2 2 list 1 5 1 5 3 0 0 0 0 0 0 0
 7 0 2 0 0 0 0 list 0 0 0 0 0 0 0 0 0 0 0 0
 0 0 0 2 7 3 7 list 1 5 1 5 3 0 1 5 1 5 4 1
 7 0 3 0 0 0 0 list 0 0 0 0 0 0 0 0 0 0 0 0
+0 0 0 2 4 2 2 list 3 5 2 5 2 0 3 5 1 3 2 1
+10 0 0 0 0 0 0 list 3 5 2 5 2 0 3 5 1 3 2 1
 0 0 0 2 3 2 2 work 3 2 2
 0 0 0 3 4 3 5 work 2 2 2
+0 0 0 1 2 2 1 work 0 0 0
 11140000000100000003000000020000000000000002D3
 0 1 3 2 2 0
 23 0 0 0 0 0

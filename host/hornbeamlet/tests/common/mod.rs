@@ -39,8 +39,14 @@ impl Calls for Proved<'_> {
 }
 
 fn to_library(settings: Settings) -> hornbeamlet::Entered {
-    let Settings { k, b, a, m, strand } = settings;
-    hornbeamlet::Entered { k, b, a, m, strand }
+    hornbeamlet::Entered {
+        k: settings.k,
+        b: settings.b,
+        a: settings.a,
+        m: settings.m,
+        strand: settings.strand,
+        mask: settings.mask,
+    }
 }
 
 fn from_library(answer: hornbeamlet::Answer) -> Answer {

@@ -1,7 +1,7 @@
 //! Random jobs of many kinds, each the same for the same seed.
 
 use reference::kmers::{count, matches};
-use reference::letters::reverse_complement;
+use reference::letters::{in_capitals, reverse_complement};
 use reference::random::Random;
 use reference::Settings;
 use std::sync::OnceLock;
@@ -9,7 +9,7 @@ use std::sync::OnceLock;
 const BASES: &[u8] = b"ACGT";
 const LETTERS: &[u8] = b"ABCDGHKMNRSTVWY";
 /// Neighbours of the letters in the alphabet and in bytes, and the ends.
-const NO_LETTERS: &[u8] = b"acgtnuUEFIJLOPQXZ@[` -*.0\n\r\t\0\x7f\x80\xc1\xff";
+const NO_LETTERS: &[u8] = b"uefijlopqxzUEFIJLOPQXZ@[`{ -*.0\n\r\t\0\x7f\x80\xc1\xe1\xff";
 
 /// Settings and two sequences.
 pub struct Job {
@@ -19,6 +19,13 @@ pub struct Job {
     pub first: Vec<u8>,
     /// The second sequence.
     pub second: Vec<u8>,
+}
+
+impl Job {
+    /// The sequences with their masked letters as the mask setting takes them.
+    pub fn swept(&self) -> [Vec<u8>; 2] {
+        [&self.first, &self.second].map(|it| in_capitals(self.settings.mask, it))
+    }
 }
 
 /// A job of at most some hundred letters; one in eight is to be refused.
@@ -37,6 +44,7 @@ pub fn small(random: &mut Random) -> Job {
         lengthen(random, &mut job);
     }
     turn(random, &mut job);
+    mask(random, &mut job);
     if random.chance(70) {
         damage(random, &mut job);
     }
@@ -60,6 +68,7 @@ pub fn long(random: &mut Random) -> Job {
         share_a_hash(random, &mut job, 64, 1_100);
     }
     turn(random, &mut job);
+    mask(random, &mut job);
     lighten(&mut job);
     if random.chance(30) {
         damage(random, &mut job);
@@ -68,7 +77,8 @@ pub fn long(random: &mut Random) -> Job {
 }
 
 /// A job of two letters and a wide gap bound: most matches are left extensions of
-/// hundreds of others, of A and T on either strand.
+/// hundreds of others, of A and T on either strand. Some break where letters are
+/// masked.
 pub fn dense(random: &mut Random) -> Job {
     let letters = random.one_of(&[b"AC", b"AT"]);
     let [first, second] = [(); 2].map(|()| {
@@ -81,12 +91,15 @@ pub fn dense(random: &mut Random) -> Job {
         a: 1_024,
         m: random.one_of(&[0, 20, 100]),
         strand: random.one_of(&[0, 1]),
+        mask: random.one_of(&[0, 1]),
     };
-    Job {
+    let mut job = Job {
         settings,
         first,
         second,
-    }
+    };
+    mask(random, &mut job);
+    job
 }
 
 /// A job of few k-mers, with a repeat cap that is the total of one of them, one
@@ -98,26 +111,30 @@ pub fn capped(random: &mut Random) -> Job {
         let length = random.between(k, 80);
         random.letters(letters, length)
     });
-    let place = random.between(0, first.len() - k);
-    let [rows, columns] = totals(&first[place..place + k], [&first, &second]);
-    let a = (rows + columns + random.below(3) - 1).max(1);
     let settings = Settings {
         k: k as u32,
         b: random.between(1, 12) as u32,
-        a: a as u32,
+        a: 1,
         m: random.one_of(&[0, 0, 5]),
         strand: random.one_of(&[0, 1]),
+        mask: random.one_of(&[0, 1]),
     };
-    Job {
+    let mut job = Job {
         settings,
         first,
         second,
-    }
+    };
+    mask(random, &mut job);
+    let swept = job.swept();
+    let place = random.between(0, swept[0].len() - k);
+    let [rows, columns] = totals(&swept[0][place..place + k], &swept);
+    job.settings.a = (rows + columns + random.below(3) - 1).max(1) as u32;
+    job
 }
 
 /// How often a k-mer occurs in each of two sequences.
-pub fn totals(kmer: &[u8], sequences: [&[u8]; 2]) -> [usize; 2] {
-    sequences.map(|sequence| {
+pub fn totals(kmer: &[u8], sequences: &[Vec<u8>; 2]) -> [usize; 2] {
+    sequences.each_ref().map(|sequence| {
         let places = sequence.windows(kmer.len());
         places.filter(|it| *it == kmer).count()
     })
@@ -216,6 +233,27 @@ fn turn(random: &mut Random, job: &mut Job) {
     }
 }
 
+/// Half of the jobs have masked letters: a share of each sequence, in stretches as
+/// repeats are delivered or each by itself.
+fn mask(random: &mut Random, job: &mut Job) {
+    if random.chance(500) {
+        return;
+    }
+    for sequence in [&mut job.first, &mut job.second] {
+        let share = random.one_of(&[0, 5, 50, 200, 500, 1_000]);
+        let longest = random.one_of(&[1, 1, 5, 40]);
+        let mut rest = sequence.as_mut_slice();
+        while !rest.is_empty() {
+            let length = random.between(1, longest.min(rest.len()));
+            let (stretch, behind) = rest.split_at_mut(length);
+            if random.chance(share) {
+                stretch.make_ascii_lowercase();
+            }
+            rest = behind;
+        }
+    }
+}
+
 /// One sequence as long as is accepted or a little longer, or both.
 fn lengthen(random: &mut Random, job: &mut Job) {
     let length = random.one_of(&[16_384, 16_385, 16_400]);
@@ -258,6 +296,7 @@ fn small_settings(random: &mut Random) -> Settings {
         a: random.one_of(&[1, 2, few, many, many, 1_024]),
         m: random.one_of(&[0, 0, span, span, 16_384]),
         strand: random.one_of(&[0, 1, 1]),
+        mask: random.one_of(&[0, 1]),
     }
 }
 
@@ -272,18 +311,20 @@ fn long_settings(random: &mut Random) -> Settings {
         a: random.one_of(&[2, few, few, 200, 1_024]),
         m: random.one_of(&[0, span, 100]),
         strand: random.one_of(&[0, 1, 1]),
+        mask: random.one_of(&[0, 1]),
     }
 }
 
 /// One setting or more outside the table, just so or by far.
 fn spoil(random: &mut Random, settings: &mut Settings) {
     for _ in 0..random.between(1, 2) {
-        match random.below(5) {
+        match random.below(6) {
             0 => settings.k = random.one_of(&[0, 32, 33, 64, u32::MAX]),
             1 => settings.b = random.one_of(&[0, 1_025, u32::MAX]),
             2 => settings.a = random.one_of(&[0, 1_025, u32::MAX]),
             3 => settings.m = random.one_of(&[16_385, u32::MAX]),
-            _ => settings.strand = random.one_of(&[2, 3, 256, 257, u32::MAX]),
+            4 => settings.strand = random.one_of(&[2, 3, 256, 257, u32::MAX]),
+            _ => settings.mask = random.one_of(&[2, 3, 256, 257, u32::MAX]),
         }
     }
 }
@@ -295,9 +336,10 @@ fn lighten(job: &mut Job) {
     const MOST_STEPS: u64 = 5_000_000;
     let Settings { k, a, .. } = job.settings;
     let mut a = a;
-    let turned = reverse_complement(&job.second);
-    let on = |a: u32, second: &[u8]| count(&matches(k as usize, a as usize, &job.first, second));
-    let found = |a: u32| on(a, &job.second) + on(a, &turned);
+    let [first, second] = job.swept();
+    let turned = reverse_complement(&second);
+    let on = |a: u32, second: &[u8]| count(&matches(k as usize, a as usize, &first, second));
+    let found = |a: u32| on(a, &second) + on(a, &turned);
     while found(a) > MOST_MATCHES {
         a /= 2;
     }

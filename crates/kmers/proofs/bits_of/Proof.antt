@@ -4,8 +4,8 @@ use native.Mathlib.Omega.{arith}
 use Prim.Native.Nat.{_*_}
 use lib.Pow.{pow-pos}
 use Rattle.kmers.proofs.Bits.{one-shifted}
-use Rattle.kmers.proofs.mask_of.Statement.{statement}
-use Rattle.kmers.proofs.mask_of.Tie as tie
+use Rattle.kmers.proofs.bits_of.Statement.{statement}
+use Rattle.kmers.proofs.bits_of.Tie as tie
 
 returns : tie.Need-returns
 returns c = rw (one-shifted (c .args .k) (c .pre))
@@ -13,5 +13,5 @@ returns c = rw (one-shifted (c .args .k) (c .pre))
 sub-result : tie.Need-sub-result
 sub-result c = omega (arith, one-shifted (c .args .k) (c .pre), pow-pos (2 * c .args .k))
 
-pub mask-of-spec : {M : Type 1} → statement M
-mask-of-spec = tie.close (tie.spec (λ c. search needs) (λ c. search needs) sub-result returns)
+pub bits-of-spec : {M : Type 1} → statement M
+bits-of-spec = tie.close (tie.spec (λ c. search needs) (λ c. search needs) sub-result returns)
