@@ -1,11 +1,11 @@
--- The two bits of a letter are those of the base that it stands for, and the letter that they belong to is itself, as far as is seen, only where it stands
+-- The two bits of what is seen of a letter are those of the base that it stands for, and the letter that they belong to is what is seen only where it stands
 -- for a base: one test that antt computes over all 256 bytes says so, under either mask setting. Assumes nothing.
 use mathlib.Core.Path.{_≡_, refl, sym, ap, _∙_}
 use mathlib.Core.Bool.{Bool, cond}
 use mathlib.Core.List.{List}
 use Prim.Native.Nat.{ℕ, zero, suc, _*_, _/_, _^_, _<_}
 use native.Mathlib.Omega.{arith}
-use lib.Bits.{bitAnd, bitXor}
+use lib.Bits.{bitAnd, bitXor, and-le-l}
 use lib.Dec.{eqb, ltb, eqb→eq}
 use lib.ListN.{getD}
 use borrow.Author.Tests.{eq-eqb, ne-eqb, ltb-true}
@@ -36,10 +36,10 @@ unfoldable pub baseWith : ℕ → ℕ
 unfolding twoOf
 baseWith x = bitAnd (1413956417 / 2 ^ (8 * twoOf x)) 255
 
--- the two bits, 4 where they belong to another letter, as far as is seen
+-- the two bits of what is seen of a letter, 4 where they belong to another
 unfoldable looked : ℕ → ℕ → ℕ
 unfolding twoOf baseWith
-looked sees x = cond (eqb (bitAnd x sees) (baseWith x)) (twoOf x) 4
+looked sees x = let seen = bitAnd x sees in cond (eqb seen (baseWith seen)) (twoOf seen) 4
 
 right : ℕ → ℕ → ℕ → Bool
 right sees mask x = eqb (looked sees x) (baseOf (standsFor mask x))
@@ -49,26 +49,33 @@ unfolding looked right baseOf standsFor seesOf
 looked-right zero x h = eqb→eq (looked 223 x) (baseOf (standsFor 0 x)) (at-each (right 223 0) 256 tt x h)
 looked-right (suc m) x h = eqb→eq (looked 255 x) (baseOf (standsFor (suc m) x)) (at-each (right 255 (suc m)) 256 tt x h)
 
-module _ (x : ℕ) (h : x < 256) where
-  pub two-low : twoOf x < 4
+module _ (x sees : ℕ) (h : x < 256) where
+  seen-low : bitAnd x sees < 256
+  seen-low = let l = and-le-l x sees in omega arith
+
+  pub two-low : twoOf (bitAnd x sees) < 4
   unfolding twoOf
-  two-low = ltb-true (twoOf x) 4 (T-true (ltb (twoOf x) 4) (at-each (λ y. ltb (twoOf y) 4) 256 tt x h))
+  two-low =
+      let y = bitAnd x sees in
+      ltb-true (twoOf y) 4 (T-true (ltb (twoOf y) 4) (at-each (λ z. ltb (twoOf z) 4) 256 tt y seen-low))
 
-  pub with-low : baseWith x < 256
+  pub with-low : baseWith (bitAnd x sees) < 256
   unfolding baseWith
-  with-low = ltb-true (baseWith x) 256 (T-true (ltb (baseWith x) 256) (at-each (λ y. ltb (baseWith y) 256) 256 tt x h))
+  with-low =
+      let y = bitAnd x sees in
+      ltb-true (baseWith y) 256 (T-true (ltb (baseWith y) 256) (at-each (λ z. ltb (baseWith z) 256) 256 tt y seen-low))
 
-  module _ (mask : ℕ) {sees : ℕ} (e : sees ≡ seesOf mask) where
+  module _ (mask : ℕ) (e : sees ≡ seesOf mask) where
     looked-is : looked sees x ≡ baseOf (standsFor mask x)
     looked-is = ap (λ (n : ℕ). looked n x) e ∙ looked-right mask x h
 
-    pub base-is : bitAnd x sees ≡ baseWith x → twoOf x ≡ baseOf (standsFor mask x)
+    pub base-is : bitAnd x sees ≡ baseWith (bitAnd x sees) → twoOf (bitAnd x sees) ≡ baseOf (standsFor mask x)
     unfolding looked
-    base-is z = rw (eq-eqb (bitAnd x sees) (baseWith x) z) at looked-is
+    base-is z = rw (eq-eqb (bitAnd x sees) (baseWith (bitAnd x sees)) z) at looked-is
 
-    pub base-none : (bitAnd x sees ≡ baseWith x → ⊥) → 4 ≡ baseOf (standsFor mask x)
+    pub base-none : (bitAnd x sees ≡ baseWith (bitAnd x sees) → ⊥) → 4 ≡ baseOf (standsFor mask x)
     unfolding looked
-    base-none n = rw (ne-eqb (bitAnd x sees) (baseWith x) n) at looked-is
+    base-none n = rw (ne-eqb (bitAnd x sees) (baseWith (bitAnd x sees)) n) at looked-is
 
 -- a letter of a sequence as it is read
 pub base-read : (mask : ℕ) (s : List ℕ) (n : ℕ) {b : ℕ} → b ≡ baseOf (standsFor mask (getD s n 0)) → b ≡ baseOf (getD (asRead mask s) n 0)

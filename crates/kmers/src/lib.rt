@@ -42,13 +42,10 @@ fn base(letter: u8, mask: u32, sees: u8) -> u64
     requires { ⌜ sees ≡ seesOf mask ⌝ }
     ensures { λ r. ⌜ r ≡ baseOf (standsFor mask letter) ⌝ }
 {
-    let two = ((letter >> 1) ^ (letter >> 2)) & 3;
+    let seen = letter & sees;
+    let two = ((seen >> 1) ^ (seen >> 2)) & 3;
     let expected = ((ACGT >> (8 * two)) & 255) as u8;
-    if letter & sees == expected {
-        two as u64
-    } else {
-        4
-    }
+    if seen == expected { two as u64 } else { 4 }
 }
 
 // One more base, below those that are there.
