@@ -5,7 +5,7 @@
  * (tools/staticlib writes both, and native/hornbeamlet.pc for pkg-config). The
  * library needs memset and nothing else. It keeps no state, allocates nothing
  * and calls nobody back, so any number of threads may use it at once. A call
- * takes up to about 1 MB of stack: see THREADS.
+ * takes up to about 1.3 MB of stack: see THREADS.
  *
  * SETTINGS
  *
@@ -68,6 +68,22 @@
  *
  * What the rooms hold before a call does not matter to it.
  *
+ * INDEX
+ *
+ * One second sequence may be compared with many first ones. Its index is then
+ * built once and given to each call, which looks k-mers up in it. It is one
+ * 32-bit number for each place that has a k-mer: the places, ordered by their
+ * k-mers (packed two bits a base, A 0, C 1, G 2, T 3, the first base highest),
+ * those of equal k-mers by place. They are never more than the letters.
+ * hornbeamlet_index builds it in numbers that the caller lends, the index room.
+ * An index is that of one sequence, as it stands, for one k and one mask
+ * setting. It serves every b, a and m, and both strands.
+ *
+ * Any numbers may be given as an index: before the sweep they are held against
+ * the sequence, k and the mask setting, and refused unless they begin with its
+ * index. Those after it change nothing. The index of a sequence without k-mers
+ * is empty, and any numbers begin with it, none too.
+ *
  * THE ANSWER
  *
  * Seven numbers, written whatever happens:
@@ -75,17 +91,21 @@
  *   [0] number     0 when done, else the number of the refusal
  *   [1] sequence   0, or the sequence refused, 1 or 2
  *   [2] detail     the particulars of the refusal, else 0
- *   [3] listed     entries listed; for the stopped sweep, records held
+ *   [3] listed     entries listed; for the stopped sweep, records held; for
+ *                  hornbeamlet_index, places in the index
  *   [4] M          matches: pairs of places with the same used k-mer
  *   [5] W          the most matches in any b + 1 consecutive rows
  *   [6] links      pairs of a match and one of its left extensions
  *
  * Over both strands W is the larger of the two, and the other three are sums.
- * After a refusal the last four are 0.
+ * After a refusal the last four are 0, and for hornbeamlet_index the last three
+ * always are.
  *
  * REFUSALS
  *
  * Checks go from the top down, and the first that applies is given.
+ * hornbeamlet_index has k, the mask setting and the second sequence, and gives
+ * 1, 10, 5, 6 and 11 alone.
  *
  *   number  given when                        sequence  detail     rooms then
  *   1       k is outside its range            0         0          untouched
@@ -99,12 +119,17 @@
  *   6       a byte is none of the letters,    1 or 2    its first  untouched
  *           all of the first sequence                   place
  *           before the second
+ *   11      index room for too few places     0         how many   all zeros
+ *           (hornbeamlet_index alone)                   there are
+ *   12      the numbers given do not begin    0         0          untouched
+ *           with the index (the calls over
+ *           an index alone)
  *   7       work room for fewer than W        0         W          all zeros
  *           records
  *   8       list room for too few entries     0         how many   all zeros
- *           (hornbeamlet_compare alone)                 there are
+ *           (the compare calls alone)                   there are
  *   19      the row is above the number of    0         that       all zeros
- *           rows (hornbeamlet_stopped alone)            number
+ *           rows (the stopped sweeps alone)             number
  *
  * FRAMES
  *
@@ -152,19 +177,22 @@
  * POINTERS
  *
  * No pointer may be null, even where its length is 0: pass the address of
- * anything suitably aligned. The rooms and the answer must not overlap one
- * another or the sequences, nor a frame's line its values. The two sequences
- * may be the same.
+ * anything suitably aligned. The rooms, an index and the answer must not
+ * overlap one another or the sequences, nor a frame's line its values. The two
+ * sequences may be the same.
  *
  * THREADS
  *
  * A call keeps its tables on the stack of the thread that makes it. Measured on
  * Arm, and for x86-64 under an emulator, over both strands: hornbeamlet_compare
  * and hornbeamlet_need worked on a thread with 924 kB of stack and crashed with
- * 912 kB; hornbeamlet_stopped worked with 860 kB and crashed with 848 kB. Short
- * sequences take as much as long ones. The calls for frames take less than
- * 20 kB. Too small a stack does no other harm than the crash: it is touched
- * page by page, so the page that guards it is met first.
+ * 912 kB; hornbeamlet_stopped worked with 860 kB and crashed with 848 kB. On
+ * Arm alone: hornbeamlet_compare_indexed worked with 1,288 kB and crashed with
+ * 1,284 kB, hornbeamlet_stopped_indexed with 1,160 and 1,156 kB,
+ * hornbeamlet_index with 268 and 264 kB. Short sequences take as much as long
+ * ones. The calls for frames take less than 20 kB. Too small a stack does no
+ * other harm than the crash: it is touched page by page, so the page that guards
+ * it is met first.
  *
  * Some systems give less to a thread other than the main one: musl 128 kB,
  * macOS 512 kB. Ask for at least 2 MB, which leaves room for the caller:
@@ -262,10 +290,10 @@ extern "C" {
 /* What hornbeamlet_need and hornbeamlet_write_frame add to the number of a
  * refusal. */
 #define HORNBEAMLET_REFUSED UINT64_C(4294967296)
-/* The strand for hornbeamlet_need and hornbeamlet_compare: forward or both. */
+/* The strand for hornbeamlet_need and the compare calls: forward or both. */
 #define HORNBEAMLET_FORWARD 0
 #define HORNBEAMLET_BOTH 1
-/* The strand for hornbeamlet_stopped: HORNBEAMLET_FORWARD or this one. */
+/* The strand for the stopped sweeps: HORNBEAMLET_FORWARD or this one. */
 #define HORNBEAMLET_REVERSE 1
 /* The mask setting: masked letters form k-mers, or break them. */
 #define HORNBEAMLET_MASKED_FORM 0
@@ -328,6 +356,45 @@ void hornbeamlet_stopped(uint32_t k, uint32_t b, uint32_t a, uint32_t m,
                          uint32_t *work, size_t work_len,
                          uint32_t row,
                          uint64_t answer[HORNBEAMLET_ANSWER]);
+
+/*
+ * Builds the index of the second sequence for this k and this mask setting.
+ * When done, the index room holds the index and zeros after it, and answer[3]
+ * is how many places there are in it. As many numbers as the sequence has
+ * letters are always enough. If the room was too short the answer is refusal 11
+ * with the number of places: lend so many numbers and call again.
+ */
+void hornbeamlet_index(uint32_t k, uint32_t mask,
+                       const uint8_t *second, size_t second_len,
+                       uint32_t *index, size_t index_len,
+                       uint64_t answer[HORNBEAMLET_ANSWER]);
+
+/*
+ * As hornbeamlet_compare, by an index of the second sequence for this k and
+ * this mask setting: answer, list room and work room are the same. Any other
+ * index is refused with 12, before work room is looked at.
+ */
+void hornbeamlet_compare_indexed(uint32_t k, uint32_t b, uint32_t a, uint32_t m,
+                                 uint32_t strand, uint32_t mask,
+                                 const uint8_t *first, size_t first_len,
+                                 const uint8_t *second, size_t second_len,
+                                 const uint32_t *index, size_t index_len,
+                                 uint32_t *work, size_t work_len,
+                                 uint32_t *list, size_t list_len,
+                                 uint64_t answer[HORNBEAMLET_ANSWER]);
+
+/*
+ * As hornbeamlet_stopped, by an index, likewise. On the reverse strand too it
+ * is the index of the second sequence as it stands.
+ */
+void hornbeamlet_stopped_indexed(uint32_t k, uint32_t b, uint32_t a, uint32_t m,
+                                 uint32_t strand, uint32_t mask,
+                                 const uint8_t *first, size_t first_len,
+                                 const uint8_t *second, size_t second_len,
+                                 const uint32_t *index, size_t index_len,
+                                 uint32_t *work, size_t work_len,
+                                 uint32_t row,
+                                 uint64_t answer[HORNBEAMLET_ANSWER]);
 
 /*
  * Writes a frame into the front of the line. The reply is its length with the

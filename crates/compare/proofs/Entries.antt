@@ -1,21 +1,19 @@
 -- The entry points: a refused job ends with its rooms untouched, and an accepted one is the job on the codes of its own letters, as
 -- they are read. Assumes nothing.
 use mathlib.Core.Path.{_≡_, refl, sym, ap, _∙_}
-use mathlib.Core.List.{List, [], _++_}
-use Prim.Native.Nat.{ℕ, _+_, _≤_}
+use mathlib.Core.List.{List, []}
+use Prim.Native.Nat.{ℕ, _+_}
 use native.Mathlib.Omega.{arith}
 use borrow.Author.Tests.{eq-eqb, ne-eqb}
-use lib.ListN.{length, take, length-append}
+use lib.ListN.{take}
 use Rattle.rules.specs.declared.Settings.{Settings}
 use Rattle.rules.specs.declared.Answer.{Answer}
 use Rattle.rules.specs.Letters.{asRead}
 use Rattle.rules.specs.Places.{places}
 use Rattle.rules.specs.Codes.{codes}
 use Rattle.rules.specs.Answers.{Outcome, left, checked, afterChecks, compared, stopped, replied}
-use Rattle.rules.proofs.Kmers.{codes-length}
-use Rattle.rules.proofs.Masks.{read-places}
 use Rattle.rules.proofs.Outcomes.{left-path}
-use Rattle.kmers.proofs.Codes.{codes-front, places-few}
+use Rattle.kmers.proofs.Codes.{Front, places-few}
 use Rattle.refusals.proofs.Checking.{number-refuses, accepted}
 use Rattle.walks.specs.Matched.{Fits}
 use Rattle.accepted.specs.Coded.{comparedCoded, stoppedCoded, neededCoded}
@@ -54,12 +52,11 @@ module _ (c : Settings) (s t : List ℕ) {r : Answer} (e : r ≡ checked c s t) 
 
 -- ---- the codes of an accepted job
 
--- the checks gave nothing, and so many codes stand in front of an array: those of the first sequence as it is read
+-- the checks gave nothing, and the codes of the first sequence as it is read stand in front of an array
 pub record Coded (c : Settings) (s t out : List ℕ) (rows : ℕ) : Type 0 where
   pub passed : checked c s t .number ≡ 0
   pub rows-are : rows ≡ places (c .k) s
-  pub rest : List ℕ
-  pub filled : out ≡ codes (c .k) (asRead (c .mask) s) ++ rest
+  pub codes-in : Front (codes (c .k) (asRead (c .mask) s)) out rows
 
 module _ (c : Settings) (s t : List ℕ) {out : List ℕ} {rows : ℕ} (y : Coded c s t out rows) where
   -- both sequences as they are read
@@ -69,17 +66,8 @@ module _ (c : Settings) (s t : List ℕ) {out : List ℕ} {rows : ℕ} (y : Code
   abbrev t′ : List ℕ
   t′ = asRead (c .mask) t
 
-  rows-read : rows ≡ places (c .k) s′
-  rows-read = y .rows-are ∙ sym (read-places (c .mask) (c .k) s)
-
   front : take rows out ≡ codes (c .k) s′
-  front = codes-front (c .k) s′ (y .rest) rows-read (y .filled)
-
-  pub rows-inside : rows ≤ length out
-  rows-inside = omega (arith, rows-read, simp length-append at (ap length (y .filled)), codes-length (c .k) s′)
-
-  pub front-long : rows ≡ length (take rows out)
-  front-long = rows-read ∙ sym (ap length front ∙ codes-length (c .k) s′)
+  front = y .codes-in .front
 
   pub fits : Fits c (take rows out) t
   fits =
@@ -89,7 +77,7 @@ module _ (c : Settings) (s t : List ℕ) {out : List ℕ} {rows : ℕ} (y : Code
         some-base = ok .some-base;
         few-bases = ok .few-bases;
         one-or-both = ok .one-or-both;
-        few-rows = omega (arith, front-long, y .rows-are);
+        few-rows = omega (arith, y .codes-in .long, y .rows-are);
         short-second = ok .short-second;
       }
 

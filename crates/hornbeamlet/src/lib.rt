@@ -1,8 +1,10 @@
-// The C boundary: the entry points on plain numbers and slices, each slice a pointer and a length. Thin: all is done in `compare` and `frames`.
+// The C boundary: the entry points on plain numbers and slices, each slice a pointer and a length. Thin: all is done in `compare`,
+// `building`, `indexed` and `frames`.
 use rules::Settings;
 ghost use mathlib.Core.Path.{_≡_};
 ghost use Rattle.rules.specs.Entered.{settings};
 ghost use Rattle.rules.specs.Answers.{compared, stopped as stoppedBy, replied};
+ghost use Rattle.requests.specs.Index.{builtIndex, comparedOver, stoppedOver};
 ghost use Rattle.answers.specs.Numbers.{answerNumbers};
 ghost use Rattle.frames.specs.Frames.{frameReply, frameLeft, readFrame};
 
@@ -76,6 +78,67 @@ pub extern "C" fn hornbeamlet_stopped(
     ensures { λ _. let o = stoppedBy (settings k b a m strand mask) (now (first .entry)) (now (second .entry)) (now (work .entry)) row in ⌜ (now (answer .exit) ≡ answerNumbers (o .answer)) × (now (work .exit) ≡ o .work) ⌝ }
 {
     let x = compare::stopped(entered(k, b, a, m, strand, mask), first, second, work, row);
+    answers::put_answer(answer, x);
+}
+
+// Builds the index of a second sequence. Done, the number of places in it stands where a job has its entries.
+#[no_mangle]
+pub extern "C" fn hornbeamlet_index(
+    k: u32,
+    mask: u32,
+    second: &[u8],
+    index: &mut [u32],
+    answer: &mut [u64; 7],
+)
+    ensures { λ _. let o = builtIndex k mask (now (second .entry)) (now (index .entry)) in ⌜ (now (answer .exit) ≡ answerNumbers (o .answer)) × (now (index .exit) ≡ o .index) ⌝ }
+{
+    let x = building::build_index(k, mask, second, index);
+    answers::put_answer(answer, x);
+}
+
+// The compare job over an index, which is only read.
+#[no_mangle]
+pub extern "C" fn hornbeamlet_compare_indexed(
+    k: u32,
+    b: u32,
+    a: u32,
+    m: u32,
+    strand: u32,
+    mask: u32,
+    first: &[u8],
+    second: &[u8],
+    index: &[u32],
+    work: &mut [u32],
+    list: &mut [u32],
+    answer: &mut [u64; 7],
+)
+    ensures { λ _. let o = comparedOver (settings k b a m strand mask) (now (first .entry)) (now (second .entry)) (now (index .entry)) (now (work .entry)) (now (list .entry)) in ⌜ (now (answer .exit) ≡ answerNumbers (o .answer)) × (now (work .exit) ≡ o .work) × (now (list .exit) ≡ o .list) ⌝ }
+{
+    let c = entered(k, b, a, m, strand, mask);
+    let x = indexed::compare_over(c, first, second, index, work, list);
+    answers::put_answer(answer, x);
+}
+
+// The stopped sweep over an index.
+#[no_mangle]
+pub extern "C" fn hornbeamlet_stopped_indexed(
+    k: u32,
+    b: u32,
+    a: u32,
+    m: u32,
+    strand: u32,
+    mask: u32,
+    first: &[u8],
+    second: &[u8],
+    index: &[u32],
+    work: &mut [u32],
+    row: u32,
+    answer: &mut [u64; 7],
+)
+    ensures { λ _. let o = stoppedOver (settings k b a m strand mask) (now (first .entry)) (now (second .entry)) (now (index .entry)) (now (work .entry)) row in ⌜ (now (answer .exit) ≡ answerNumbers (o .answer)) × (now (work .exit) ≡ o .work) ⌝ }
+{
+    let c = entered(k, b, a, m, strand, mask);
+    let x = indexed::stopped_over(c, first, second, index, work, row);
     answers::put_answer(answer, x);
 }
 

@@ -78,6 +78,11 @@ first-columns {first} {second} {own₀} {own} {firsts₀} {firsts₁} {firsts₂
         let counts = own-count oc c some (length second) (omega arith) in
         omega (arith, z .zeros q, columns, rows, counts, own-count of c some (length first) (omega arith), total-counted first second c)
 
+-- first columns made of owners that were written over other numbers
+pub firsts-over : {first second firsts₀ firsts₁ firsts₂ : List ℕ} {a : ℕ} → Owned second first firsts₀ firsts₁ (length first)
+    → FirstColumns first second a firsts₁ firsts₂ → FirstColumns first second a firsts₀ firsts₂
+firsts-over o f = record { long = f .long ∙ o .long; rows = f .rows; others = λ p l. f .others p l ∙ o .others p l }
+
 -- every number of firsts is a column or 0, so that nexts may be read by it
 pub firsts-within : {first second : List ℕ} {a : ℕ} {firsts₀ firsts : List ℕ} → FirstColumns first second a firsts₀ firsts → (p : ℕ)
     → p < length first → getD firsts p 0 ≤ length second

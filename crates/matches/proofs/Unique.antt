@@ -6,7 +6,7 @@ use lib.ListN.{length}
 use Rattle.order.proofs.Cases.{one-list}
 use Rattle.matches.specs.Columns.{FirstColumns}
 
--- any two results of `matches::find_matches` are equal: the first columns
+-- any two results of `matches::find_matches`, of `matches::finish_matches` and of `lookups::find_matches` are equal: the first columns
 pub firsts-one : {first second : List ℕ} {a : ℕ} {firsts₀ x y : List ℕ} → FirstColumns first second a firsts₀ x
     → FirstColumns first second a firsts₀ y → x ≡ y
 firsts-one {first} f g =

@@ -91,5 +91,9 @@ owned-kept l o = record { long = o .long; others = λ p k. o .others p (omega ar
 pub owned-over : {second codes own₀ own₁ own : List ℕ} {n : ℕ} → Kept own₀ own₁ n → Owned second codes own₁ own n → Owned second codes own₀ own n
 owned-over k o = record { long = o .long ∙ k .long; owners = o .owners; others = λ p l. o .others p l ∙ k .others p l }
 
+-- and what stood there before is forgotten
+pub owned-again : {second codes own₀ own : List ℕ} {n : ℕ} → Owned second codes own₀ own n → Owned second codes own own n
+owned-again o = record { long = refl; owners = o .owners; others = λ p l. refl }
+
 pub owned-owns : {second own₀ own : List ℕ} → Owned second second own₀ own (length second) → Owns second own
 owned-owns o = record { owners = o .owners }

@@ -6,7 +6,7 @@ use lib.ListN.{getD}
 use Rattle.order.proofs.Cases.{one-list}
 use Rattle.ownership.specs.Owners.{Owned, Kept}
 
--- any two results of `hashed::owners_by_table`, of `ordered::own_by_order` and of `owners::own_all` are equal
+-- any two results of `hashed::owners_by_table`, of `ordered::own_by_order`, of `owners::own_all`, of `directory::own_rows` and of `columns::own_columns` are equal
 pub owned-one : {second codes own₀ x y : List ℕ} {n : ℕ} → Owned second codes own₀ x n → Owned second codes own₀ y n → x ≡ y
 owned-one {n = n} a b =
     one-list n (a .long) (b .long) (λ p l. a .owners p l ∙ sym (b .owners p l)) (λ p l. a .others p l ∙ sym (b .others p l))

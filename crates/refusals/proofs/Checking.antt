@@ -110,7 +110,7 @@ in-pieces c s t = refl
 
 -- ---- a job that is not refused
 
-inside : (low high n : ℕ) → outside low high n ≡ false → (low ≤ n) × (n ≤ high)
+pub inside : (low high n : ℕ) → outside low high n ≡ false → (low ≤ n) × (n ≤ high)
 unfolding outside
 inside low high n e = go (tested (outside low high n))
   where
@@ -121,7 +121,7 @@ inside low high n e = go (tested (outside low high n))
         let b : ¬ (high < n) = λ h. f (simp tests (λ _. h)) in
         (omega arith, omega arith)
 
-number-of : (t : Bool) (n q d : ℕ) (a : Answer) → cond t (refusal n q d) a .number ≡ 0 → (n ≡ 0 → ⊥) → (t ≡ false) × (a .number ≡ 0)
+pub number-of : (t : Bool) (n q d : ℕ) (a : Answer) → cond t (refusal n q d) a .number ≡ 0 → (n ≡ 0 → ⊥) → (t ≡ false) × (a .number ≡ 0)
 unfolding refusal
 number-of true n q d a e h = absurd (h e)
 number-of false n q d a e h = (refl, e)

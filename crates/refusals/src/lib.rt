@@ -5,7 +5,8 @@ ghost use mathlib.Core.Path.{_≡_};
 ghost use mathlib.Core.List.{[], _∷_};
 ghost use Rattle.rules.specs.Answers.{outside, settingsChecks, lengthCheck, letterCheck, given, checked};
 
-fn is_outside(low: u32, high: u32, n: u32) -> bool
+// Whether a setting is outside its range.
+pub fn is_outside(low: u32, high: u32, n: u32) -> bool
     ensures { λ r. ⌜ r ≡ outside low high n ⌝ }
 {
     if n < low {

@@ -8,9 +8,8 @@ use borrow.Author.Tests.{eq-eqb, ne-eqb}
 use lib.ListN.{length, getD, take, List·getD-eq-default}
 use lib.Seq.{getD-take, length-take-le}
 use Rattle.rules.specs.declared.Settings.{Settings}
-use Rattle.rules.specs.Places.{places}
 use Rattle.rules.specs.Matches.{matchesTo}
-use Rattle.rules.specs.Codes.{codes}
+use Rattle.rules.specs.Codes.{codes, codeMatch}
 use Rattle.rules.specs.Strands.{onStrand}
 use Rattle.rules.proofs.Tests.{Three, below, equal, above, three}
 use Rattle.rules.proofs.Kmers.{codes-length}
@@ -45,56 +44,45 @@ pub record BothMatched (c : Settings) (coded second firsts nexts reverse-firsts 
   pub rows-are : rows ≡ reverseRows c (length coded)
   pub reverse : Matched c coded (onStrand 1 second) reverse-firsts reverse-nexts rows
 
-module _ (c : Settings) (coded t : List ℕ) (ok : Fits c coded t) (firsts₀ nexts₀ firsts nexts : List ℕ) (bf : Blank firsts₀) (bn : Blank nexts₀)
-    (f : FirstColumns coded (codes (c .k) t) (c .a) firsts₀ firsts) (n : NextColumns (codes (c .k) t) nexts₀ nexts) where
+-- the same of any two lists of codes
+pub record CodesWalked (xs ys : List ℕ) (a : ℕ) (firsts nexts : List ℕ) : Type 0 where
+  pub long : length xs ≡ length (take (length xs) firsts)
+  pub inside : length xs ≤ length firsts
+  pub wide : length nexts ≡ 16384
+  pub safe : WalkSafe (take (length xs) firsts) nexts
+  pub comes : walked (take (length xs) firsts) nexts ≡ matchesTo (codeMatch xs ys a) (length ys) (length xs)
+
+module _ (xs ys : List ℕ) (a : ℕ) (few-rows : length xs ≤ 16384) (few-columns : length ys ≤ 16384) (firsts₀ nexts₀ firsts nexts : List ℕ) (bf : Blank firsts₀)
+    (bn : Blank nexts₀) (f : FirstColumns xs ys a firsts₀ firsts) (n : NextColumns ys nexts₀ nexts) where
   abbrev rows : ℕ
-  rows = length coded
+  rows = length xs
 
   abbrev columns : ℕ
-  columns = places (c .k) t
-
-  few-columns : columns ≤ 16384
-  few-columns = places-few (c .k) t (ok .some-base) (ok .short-second)
+  columns = length ys
 
   front-length : length (take rows firsts) ≡ rows
-  front-length = length-take-le rows firsts (let l = f .long in let z = bf .long in let r = ok .few-rows in omega arith)
+  front-length = length-take-le rows firsts (omega (arith, f .long, bf .long))
 
-  walks : (p : ℕ) → p < length (take rows firsts) → RowWalk (codedMatch c coded t) (suc p) columns (getD (take rows firsts) p 0) nexts
-  unfolding codedMatch
+  walks : (p : ℕ) → p < length (take rows firsts) → RowWalk (codeMatch xs ys a) (suc p) columns (getD (take rows firsts) p 0) nexts
   walks p h =
       let l = front-length in
-      let w : RowWalk (codedMatch c coded t) (suc p) (length (codes (c .k) t)) (getD firsts p 0) nexts = row-walk f n p (omega arith) in
-      let w1 = subst (λ (q : ℕ). RowWalk (codedMatch c coded t) (suc p) q (getD firsts p 0) nexts) (codes-length (c .k) t) w in
-      subst⁻¹ (λ (q : ℕ). RowWalk (codedMatch c coded t) (suc p) columns q nexts) (getD-take rows firsts p 0 (omega arith)) w1
+      subst⁻¹ (λ (q : ℕ). RowWalk (codeMatch xs ys a) (suc p) columns q nexts) (getD-take rows firsts p 0 (omega arith)) (row-walk f n p (omega arith))
 
   starts : (p : ℕ) → Three p rows → getD (take rows firsts) p 0 ≤ length nexts
-  starts p (below h) =
-      let e = getD-take rows firsts p 0 h in
-      let lt = codes-length (c .k) t in
-      let w = firsts-within f p (omega arith) in
-      let z = bn .long in
-      let nl = n .long in
-      let fc = few-columns in
-      omega arith
+  starts p (below h) = omega (arith, getD-take rows firsts p 0 h, firsts-within f p h, bn .long, n .long)
   starts p (equal h) = let e = List·getD-eq-default (take rows firsts) 0 {n = p} (let l = front-length in omega arith) in omega arith
   starts p (above h) = let e = List·getD-eq-default (take rows firsts) 0 {n = p} (let l = front-length in omega arith) in omega arith
 
   beyond-zero : (q : ℕ) → columns ≤ q → getD nexts q 0 ≡ 0
-  beyond-zero q h = n .others q (let l = codes-length (c .k) t in omega arith) ∙ bn .empty q
+  beyond-zero q h = n .others q h ∙ bn .empty q
 
   inside : (q : ℕ) → Three q columns → getD nexts q 0 ≤ length nexts
-  inside q (below h) =
-      let lt = codes-length (c .k) t in
-      let w = nexts-within n q (omega arith) in
-      let z = bn .long in
-      let nl = n .long in
-      let fc = few-columns in
-      omega arith
+  inside q (below h) = omega (arith, nexts-within n q h, bn .long, n .long)
   inside q (equal h) = let e = beyond-zero q (omega arith) in omega arith
   inside q (above h) = let e = beyond-zero q (omega arith) in omega arith
 
   rising : (q : ℕ) → Three q columns → 1 ≤ getD nexts q 0 → suc q < getD nexts q 0
-  rising q (below h) l = let lt = codes-length (c .k) t in nexts-rise n q (omega arith) l
+  rising q (below h) l = nexts-rise n q h l
   rising q (equal h) l = let e = beyond-zero q (omega arith) in absurd (omega arith)
   rising q (above h) l = let e = beyond-zero q (omega arith) in absurd (omega arith)
 
@@ -102,29 +90,36 @@ module _ (c : Settings) (coded t : List ℕ) (ok : Fits c coded t) (firsts₀ ne
   safe =
       let wide = n .long ∙ bn .long in
       record {
-        few-rows = (let l = front-length in let fr = ok .few-rows in omega arith);
+        few-rows = (let l = front-length in omega arith);
         starts = λ p. starts p (three p rows);
         nexts-safe = record { few-columns = omega arith; inside = λ q. inside q (three q columns); rising = λ q. rising q (three q columns) };
       }
 
-  comes : walked (take rows firsts) nexts ≡ codedMatches c coded t rows
-  unfolding codedMatches walked
+  comes : walked (take rows firsts) nexts ≡ matchesTo (codeMatch xs ys a) columns rows
+  unfolding walked
   comes =
       let l = front-length in
       ap (walkedTo (take rows firsts) nexts) l ∙ sym (described-same safe (record { rows = walks; narrow = few-columns }) rows (omega arith))
 
-  matched : Matched c coded t firsts nexts rows
-  matched =
-      let l = f .long in
-      let z = bf .long in
-      let r = ok .few-rows in
-      record { long = sym front-length; inside = omega arith; wide = n .long ∙ bn .long; safe = safe; comes = comes }
+  pub codes-walked : CodesWalked xs ys a firsts nexts
+  codes-walked =
+      record { long = sym front-length; inside = omega (arith, f .long, bf .long); wide = n .long ∙ bn .long; safe = safe; comes = comes }
 
 -- THE THEOREM: in arrays that were blank, the columns can be walked and lead to the matches
 pub columns-matched : {c : Settings} {coded t firsts₀ nexts₀ firsts nexts : List ℕ} → Fits c coded t → Blank firsts₀ → Blank nexts₀
     → Columns c coded t firsts₀ nexts₀ firsts nexts → Matched c coded t firsts nexts (length coded)
+unfolding codedMatches codedMatch
 columns-matched {c} {coded} {t} {firsts₀} {nexts₀} {firsts} {nexts} ok bf bn m =
-    matched c coded t ok firsts₀ nexts₀ firsts nexts bf bn (m .first) (m .next)
+    let size = codes-length (c .k) t in
+    let few = places-few (c .k) t (ok .some-base) (ok .short-second) in
+    let w = codes-walked coded (codes (c .k) t) (c .a) (ok .few-rows) (omega arith) firsts₀ nexts₀ firsts nexts bf bn (m .first) (m .next) in
+    record {
+      long = w .long;
+      inside = w .inside;
+      wide = w .wide;
+      safe = w .safe;
+      comes = w .comes ∙ ap (λ (n : ℕ). matchesTo (codeMatch coded (codes (c .k) t) (c .a)) n (length coded)) size;
+    }
 
 -- a blank strand has no rows to walk
 none-matched : {c : Settings} {coded u firsts nexts : List ℕ} → Blank firsts → Blank nexts → Matched c coded u firsts nexts 0
@@ -149,25 +144,32 @@ none-matched bf bn =
       comes = refl;
     }
 
-pub both-matched : {c : Settings} {coded t firsts₀ nexts₀ reverse-firsts₀ reverse-nexts₀ firsts nexts reverse-firsts reverse-nexts : List ℕ} {rows : ℕ}
-    → Fits c coded t → Blank firsts₀ → Blank nexts₀ → Blank reverse-firsts₀ → Blank reverse-nexts₀
-    → BothColumns c coded t firsts₀ nexts₀ reverse-firsts₀ reverse-nexts₀ firsts nexts reverse-firsts reverse-nexts rows
-    → BothMatched c coded t firsts nexts reverse-firsts reverse-nexts rows
+-- on both strands, where the reverse strand's arrays are blank if it is not asked for
+pub both-of : {c : Settings} {coded t firsts nexts reverse-firsts reverse-nexts : List ℕ} {rows : ℕ} → rows ≡ reverseRows c (length coded)
+    → Matched c coded t firsts nexts (length coded) → ((c .strand ≡ 0 → ⊥) → Matched c coded (onStrand 1 t) reverse-firsts reverse-nexts (length coded))
+    → (c .strand ≡ 0 → Blank reverse-firsts × Blank reverse-nexts) → BothMatched c coded t firsts nexts reverse-firsts reverse-nexts rows
 unfolding reverseRows
-both-matched {c} {coded} {t} {reverse-firsts = reverse-firsts} {reverse-nexts = reverse-nexts} {rows = rows} ok bf bn rf rn m =
-    record { forward = columns-matched ok bf bn (m .forward); rows-are = m .rows-are; reverse = back }
+both-of {c} {coded} {t} {reverse-firsts = reverse-firsts} {reverse-nexts = reverse-nexts} {rows = rows} e forward reverse blank =
+    record { forward = forward; rows-are = e; reverse = back }
   where
     back : Matched c coded (onStrand 1 t) reverse-firsts reverse-nexts rows
     back =
         ⊎-elim
-        (λ (e : c .strand ≡ 0).
-        let none : rows ≡ 0 = m .rows-are ∙ rw (eq-eqb (c .strand) 0 e) in
-        let (ef, en) = m .unasked e in
-        subst⁻¹ (Matched c coded (onStrand 1 t) reverse-firsts reverse-nexts) none (none-matched (subst⁻¹ Blank ef rf) (subst⁻¹ Blank en rn)))
+        (λ (z : c .strand ≡ 0).
+        let none : rows ≡ 0 = e ∙ rw (eq-eqb (c .strand) 0 z) in
+        subst⁻¹ (Matched c coded (onStrand 1 t) reverse-firsts reverse-nexts) none (none-matched (blank z .0) (blank z .1)))
         (λ (n : c .strand ≡ 0 → ⊥).
-        let all : rows ≡ length coded = m .rows-are ∙ rw (ne-eqb (c .strand) 0 n) in
-        subst⁻¹ (Matched c coded (onStrand 1 t) reverse-firsts reverse-nexts) all (columns-matched (strand-fits 1 ok) rf rn (m .reverse n)))
+        let all : rows ≡ length coded = e ∙ rw (ne-eqb (c .strand) 0 n) in
+        subst⁻¹ (Matched c coded (onStrand 1 t) reverse-firsts reverse-nexts) all (reverse n))
         (eq-or-ne (c .strand) 0)
+
+pub both-matched : {c : Settings} {coded t firsts₀ nexts₀ reverse-firsts₀ reverse-nexts₀ firsts nexts reverse-firsts reverse-nexts : List ℕ} {rows : ℕ}
+    → Fits c coded t → Blank firsts₀ → Blank nexts₀ → Blank reverse-firsts₀ → Blank reverse-nexts₀
+    → BothColumns c coded t firsts₀ nexts₀ reverse-firsts₀ reverse-nexts₀ firsts nexts reverse-firsts reverse-nexts rows
+    → BothMatched c coded t firsts nexts reverse-firsts reverse-nexts rows
+both-matched ok bf bn rf rn m =
+    both-of (m .rows-are) (columns-matched ok bf bn (m .forward)) (λ n. columns-matched (strand-fits 1 ok) rf rn (m .reverse n))
+    (λ e. (subst⁻¹ Blank (m .unasked e .0) rf, subst⁻¹ Blank (m .unasked e .1) rn))
 
 -- and on the strand that is named
 pub strand-matched : {c : Settings} {coded t firsts₀ nexts₀ firsts nexts : List ℕ} → Fits c coded t → Blank firsts₀ → Blank nexts₀

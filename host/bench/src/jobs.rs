@@ -92,6 +92,13 @@ pub fn ordinary() -> Vec<Job> {
     jobs
 }
 
+/// The jobs that are compared over an index too: the ordinary ones, and one whose
+/// k-mers the library has to sort where it has no index.
+pub fn indexed() -> Vec<Job> {
+    let sorted = worst().pop();
+    ordinary().into_iter().chain(sorted).collect()
+}
+
 /// The ordinary jobs of the greatest length, the one over both strands included.
 fn longest() -> Vec<Job> {
     ordinary().split_off(2 * KINDS.len())
@@ -342,6 +349,12 @@ mod tests {
         ];
         assert_eq!(names, expected);
         assert_eq!(short.len() + long.len(), worst().len());
+    }
+
+    #[test]
+    fn the_last_of_the_jobs_over_an_index_makes_the_library_sort() {
+        let last = indexed().pop().map(|job| job.name);
+        assert_eq!(last.as_deref(), Some("k-mers that share a hash"));
     }
 
     #[test]

@@ -3,7 +3,7 @@
 //! measured here and now, since only such ratios carry over.
 //!
 //! `bench --k` tells instead what k-mers of other lengths do to a listing, and
-//! times nothing.
+//! times nothing. `bench --index` prints the table of calls over an index alone.
 //!
 //! `bench --before BENCH ANNEX` compares with an earlier revision: BENCH is its
 //! `bench`, linked with its library, and ANNEX its command. See tools/bench-before.
@@ -13,6 +13,7 @@
 
 mod bounds;
 mod calls;
+mod indexed;
 mod jobs;
 mod lengths;
 mod lent;
@@ -23,7 +24,7 @@ mod table;
 mod timing;
 mod versions;
 
-use hornbeamlet::with_library;
+use hornbeamlet::{with_library, Library};
 use processes::{Processes, Programs};
 use std::env;
 use std::ffi::OsString;
@@ -42,10 +43,14 @@ fn main() -> ExitCode {
             with_library(lengths::print);
             Ok(())
         }
+        [word] if word == "--index" => {
+            with_library(print_indexed);
+            Ok(())
+        }
         [word, bench, annex] if word == "--before" => {
             versions::print(Path::new(bench), Path::new(annex))
         }
-        _ => Err("usage: bench [--k | --before BENCH ANNEX | --serve]".to_string()),
+        _ => Err("usage: bench [--k | --index | --before BENCH ANNEX | --serve]".to_string()),
     };
     match end {
         Ok(()) => ExitCode::SUCCESS,
@@ -68,8 +73,13 @@ fn print_all() -> Result<(), String> {
         calls::print("The call `compare` where k-mers are over the cap", &over);
         let worst = calls::measure(library, jobs::worst());
         calls::print("The call `compare` on the worst jobs accepted", &worst);
+        print_indexed(library);
         stages::print(library, &jobs::staged());
         bounds::print(&ordinary, &processes, &worst);
     });
     Ok(())
+}
+
+fn print_indexed(library: &Library) {
+    indexed::print(library, &jobs::indexed());
 }

@@ -96,6 +96,34 @@ calls! {
         answer: &mut [u64; 7],
     );
 
+    fn hornbeamlet_index(
+        k: u32,
+        mask: u32,
+        second: &[u8],
+        index: &mut [u32],
+        answer: &mut [u64; 7],
+    );
+
+    fn hornbeamlet_compare_indexed(
+        settings: Entered,
+        first: &[u8],
+        second: &[u8],
+        index: &[u32],
+        work: &mut [u32],
+        list: &mut [u32],
+        answer: &mut [u64; 7],
+    );
+
+    fn hornbeamlet_stopped_indexed(
+        settings: Entered,
+        first: &[u8],
+        second: &[u8],
+        index: &[u32],
+        work: &mut [u32],
+        row: u32,
+        answer: &mut [u64; 7],
+    );
+
     fn hornbeamlet_write_frame(kind: u32, values: &[u64], line: &mut [u8]) -> u64;
 
     fn hornbeamlet_read_frame(kind: u32, line: &[u8], values: &mut [u64; 5]) -> u64;
@@ -137,6 +165,48 @@ impl Library {
     ) -> Answer {
         let settings = settings.into();
         answered(|answer| hornbeamlet_stopped(settings, first, second, work, row, answer))
+    }
+
+    /// The index of the second sequence for this k and this mask setting: its places
+    /// that have a k-mer, by packed k-mer and then by place, then zeros. The answer's
+    /// first tally is their number, which is never more than that of the letters. One
+    /// index serves every b, a and m, and either strand.
+    pub fn index(&self, k: u32, mask: u32, second: &[u8], index: &mut [u32]) -> Answer {
+        answered(|answer| hornbeamlet_index(k, mask, second, index, answer))
+    }
+
+    /// What [`Library::compare`] gives, in answer and rooms, from a slice that begins
+    /// with the index of the second sequence. Any other is refused by 12, which
+    /// leaves the rooms as they were.
+    pub fn compare_indexed(
+        &self,
+        settings: impl Into<Entered>,
+        first: &[u8],
+        second: &[u8],
+        index: &[u32],
+        work: &mut [u32],
+        list: &mut [u32],
+    ) -> Answer {
+        let settings = settings.into();
+        answered(|answer| {
+            hornbeamlet_compare_indexed(settings, first, second, index, work, list, answer)
+        })
+    }
+
+    /// What [`Library::stopped`] gives, likewise.
+    pub fn stopped_indexed(
+        &self,
+        settings: impl Into<Entered>,
+        first: &[u8],
+        second: &[u8],
+        index: &[u32],
+        work: &mut [u32],
+        row: u32,
+    ) -> Answer {
+        let settings = settings.into();
+        answered(|answer| {
+            hornbeamlet_stopped_indexed(settings, first, second, index, work, row, answer)
+        })
     }
 
     /// A frame written as a line to the front of the slice; the bytes behind it

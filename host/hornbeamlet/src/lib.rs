@@ -18,6 +18,8 @@
 
 mod boundary;
 #[forbid(unsafe_code)]
+mod index;
+#[forbid(unsafe_code)]
 pub mod kinds;
 #[forbid(unsafe_code)]
 mod listing;
@@ -26,6 +28,7 @@ mod refusal;
 #[forbid(unsafe_code)]
 mod stack;
 
+pub use index::Index;
 pub use listing::{Entry, Listing};
 pub use refusal::Refusal;
 pub use settings::{
@@ -57,7 +60,7 @@ pub struct Answer {
     pub sequence: u64,
     /// The particulars of the refusal.
     pub detail: u64,
-    /// Entries listed; for the stopped sweep, records held.
+    /// Entries listed; for the stopped sweep, records held; for an index, its places.
     pub listed: u64,
     /// M, the number of matches, over both strands their sum.
     pub matches: u64,

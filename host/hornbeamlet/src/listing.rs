@@ -1,6 +1,6 @@
 //! From settings and sequences to a listing, with rooms lent as needed.
 
-use crate::{Answer, Entered, Library, Refusal, Strand, ENTRY, FORWARD, RECORD};
+use crate::{Answer, Entered, Index, Library, Refusal, Strand, ENTRY, FORWARD, RECORD};
 
 /// Records the work room holds at the first try: 64 kB, enough for an ordinary
 /// pair, one full of repeats too. More would cost all of them time, as the library
@@ -82,15 +82,34 @@ impl Library {
         second: &[u8],
     ) -> Result<Listing, Refusal> {
         let settings = settings.into();
-        let mut work = vec![0; RECORD * FIRST_RECORDS];
-        let mut list = vec![0; ENTRY * FIRST_ENTRIES];
-        loop {
-            let answer = self.compare(settings, first, second, &mut work, &mut list);
-            match answer.number {
-                WORK_SHORT => work = vec![0; RECORD * answer.detail as usize],
-                LIST_SHORT => list = vec![0; ENTRY * answer.detail as usize],
-                _ => return listing(answer, &list),
-            }
+        lend(|work, list| self.compare(settings, first, second, work, list))
+    }
+
+    /// The same listing, by the index of the second sequence. One that is not for
+    /// this sequence, k and mask setting is refused by 12.
+    pub fn list_indexed(
+        &self,
+        settings: impl Into<Entered>,
+        first: &[u8],
+        second: &[u8],
+        index: &Index,
+    ) -> Result<Listing, Refusal> {
+        let (settings, index) = (settings.into(), index.places());
+        lend(|work, list| self.compare_indexed(settings, first, second, index, work, list))
+    }
+}
+
+/// The listing of a comparison that is made in the work room and the list room that
+/// it is lent.
+fn lend(compare: impl Fn(&mut [u32], &mut [u32]) -> Answer) -> Result<Listing, Refusal> {
+    let mut work = vec![0; RECORD * FIRST_RECORDS];
+    let mut list = vec![0; ENTRY * FIRST_ENTRIES];
+    loop {
+        let answer = compare(&mut work, &mut list);
+        match answer.number {
+            WORK_SHORT => work = vec![0; RECORD * answer.detail as usize],
+            LIST_SHORT => list = vec![0; ENTRY * answer.detail as usize],
+            _ => return listing(answer, &list),
         }
     }
 }

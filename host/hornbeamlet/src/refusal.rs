@@ -12,7 +12,7 @@ pub struct Refusal {
     pub number: u64,
     /// 0, or the sequence refused.
     pub sequence: u64,
-    /// Place, room or number of rows, by the number.
+    /// Place, room or number of rows or places, by the number.
     pub detail: u64,
 }
 
@@ -53,6 +53,11 @@ impl Display for Refusal {
             8 => write!(to, "list room for {detail} entries is needed"),
             9 => write!(to, "the strand is neither 0 nor 1"),
             10 => write!(to, "the mask setting is neither 0 nor 1"),
+            11 => write!(to, "index room for {detail} places is needed"),
+            12 => write!(
+                to,
+                "the index is not that of the second sequence for this k and mask setting"
+            ),
             19 => write!(to, "the row is above the number of rows, {detail}"),
             _ => write!(to, "sequence {}, detail {detail}", self.sequence),
         }
@@ -94,6 +99,8 @@ mod tests {
             (8, "entries"),
             (9, "strand"),
             (10, "mask"),
+            (11, "places"),
+            (12, "index"),
             (19, "rows"),
         ];
         for (number, word) in words {

@@ -1,4 +1,4 @@
-//! Room on the stack. A call takes up to about 1 MB of it, and a thread may
+//! Room on the stack. A call takes up to about 1.3 MB of it, and a thread may
 //! have been given less than that, so calls are made on a thread of our own.
 
 use std::marker::PhantomData;

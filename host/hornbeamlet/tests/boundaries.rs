@@ -349,7 +349,11 @@ fn a_job_that_needs_more_than_the_first_try_is_listed_as_in_ample_rooms() {
 fn listed_as_in_ample_rooms(settings: Entered, sequences: [&[u8]; 2]) -> Answer {
     with_library(|library| {
         let (answer, _, list) = compared(library, settings, sequences, [80_000, 60_000]);
-        let listing = library.list(settings, sequences[0], sequences[1]).unwrap();
+        let [first, second] = sequences;
+        let listing = library.list(settings, first, second).unwrap();
+        let index = library.build_index(settings, second).unwrap();
+        let over = library.list_indexed(settings, first, second, &index);
+        assert_eq!(over, Ok(listing.clone()));
         let entries: Vec<u32> = listing.entries.iter().flat_map(numbers).collect();
         assert_eq!(listing.answer, answer);
         assert_eq!(entries, list[..6 * answer.listed as usize]);

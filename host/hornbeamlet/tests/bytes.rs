@@ -1,7 +1,7 @@
 //! Every byte at the first, the middle and the last place of either sequence, with
 //! each mask setting and on each strand: answers and rooms are those of the separate
-//! program. What is refused, and what a masked letter does, is asked for in itself
-//! too.
+//! program, and those over an index the plain ones. What is refused, and what a
+//! masked letter does, is asked for in itself too.
 
 #![forbid(unsafe_code)]
 
@@ -9,7 +9,7 @@ mod common;
 
 use common::Proved;
 use hornbeamlet::{with_library, BOTH, FORWARD, MASKED_BREAK, MASKED_FORM};
-use reference::calls::{Calls, Reference};
+use reference::calls::{Calls, IndexCalls, Over, Reference};
 use reference::{Answer, Settings};
 
 const CAPITALS: &[u8] = b"ABCDGHKMNRSTVWY";
@@ -23,12 +23,32 @@ const PLACES: [usize; 3] = [0, 7, 14];
 /// Rows of the first sequence with k-mers of two letters.
 const ROWS: u32 = 14;
 
-/// What the three calls give, with each room after it.
+/// What all calls give, the sweeps over the index that was built too.
 #[derive(Debug, PartialEq)]
 struct Given {
     need: u64,
+    built: (Answer, Vec<u32>),
+    plain: Swept,
+    over: Swept,
+}
+
+/// What the two sweeps give, with each room after it.
+#[derive(Debug, PartialEq)]
+struct Swept {
     compared: (Answer, Vec<u32>, Vec<u32>),
     stopped: (Answer, Vec<u32>),
+}
+
+impl Swept {
+    fn by(asked: &impl Calls, settings: Settings, [first, second]: &[Vec<u8>; 2]) -> Swept {
+        let [mut work, mut list, mut held] = [200, 100, 200].map(|length| vec![STALE; length]);
+        let compared = asked.compare(settings, first, second, &mut work, &mut list);
+        let stopped = asked.stopped(settings, first, second, &mut held, ROWS);
+        Swept {
+            compared: (compared, work, list),
+            stopped: (stopped, held),
+        }
+    }
 }
 
 /// A place of one of the sequences, and the settings they are compared with.
@@ -56,17 +76,21 @@ impl Case {
     }
 
     /// What is given with this byte at the place.
-    fn given_by(&self, asked: &impl Calls, byte: u8) -> Given {
+    fn given_by(&self, asked: &impl IndexCalls, byte: u8) -> Given {
         let mut sequences = SEQUENCES.map(<[u8]>::to_vec);
         sequences[self.which][self.place] = byte;
-        let ([first, second], settings) = (sequences, self.settings);
-        let [mut work, mut list, mut held] = [200, 100, 200].map(|length| vec![STALE; length]);
-        let compared = asked.compare(settings, &first, &second, &mut work, &mut list);
-        let stopped = asked.stopped(settings, &first, &second, &mut held, ROWS);
+        let ([first, second], settings) = (&sequences, self.settings);
+        let mut index = vec![STALE; second.len()];
+        let built = asked.index(settings.k, settings.mask, second, &mut index);
+        let over = Over {
+            calls: asked,
+            index: &index,
+        };
         Given {
-            need: asked.need(settings, &first, &second),
-            compared: (compared, work, list),
-            stopped: (stopped, held),
+            need: asked.need(settings, first, second),
+            plain: Swept::by(asked, settings, &sequences),
+            over: Swept::by(&over, settings, &sequences),
+            built: (built, index),
         }
     }
 
@@ -99,6 +123,7 @@ fn every_byte_is_taken_as_the_separate_program_takes_it() {
                 let given = case.given_by(&Proved(library), byte);
                 let expected = case.given_by(&Reference, byte);
                 assert_eq!(given, expected, "byte {byte}: {case:?}");
+                assert_eq!(given.over, given.plain, "byte {byte}: {case:?}");
             }
         }
     });
@@ -110,7 +135,7 @@ fn what_is_no_letter_is_refused_at_its_place() {
         for case in Case::all() {
             for byte in 0..=255 {
                 let given = case.given_by(&Proved(library), byte);
-                let answers = [given.compared.0, given.stopped.0];
+                let answers = [given.plain.compared.0, given.plain.stopped.0];
                 let told = answers.map(|it| (it.number, it.sequence, it.detail));
                 let due = match is_letter(byte) {
                     true => (0, 0, 0),

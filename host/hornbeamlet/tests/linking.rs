@@ -12,11 +12,14 @@ use std::path::Path;
 use std::process::Command;
 
 /// The functions of the header, in the order of their names.
-const FUNCTIONS: [&str; 5] = [
+const FUNCTIONS: [&str; 8] = [
     "hornbeamlet_compare",
+    "hornbeamlet_compare_indexed",
+    "hornbeamlet_index",
     "hornbeamlet_need",
     "hornbeamlet_read_frame",
     "hornbeamlet_stopped",
+    "hornbeamlet_stopped_indexed",
     "hornbeamlet_write_frame",
 ];
 

@@ -1,5 +1,6 @@
 //! The library against the reference on random jobs: every answer, and both
 //! rooms whole, lent full of other numbers and at every size around the limits.
+//! Every job is swept over its index too, and some over a damaged one.
 //!
 //! HORNBEAMLET_JOBS, HORNBEAMLET_LONG_JOBS, HORNBEAMLET_DENSE_JOBS and
 //! HORNBEAMLET_CAPPED_JOBS set how many jobs are run, HORNBEAMLET_SEED the seed of
@@ -14,12 +15,12 @@ mod jobs;
 use common::Proved;
 use hornbeamlet::with_library;
 use jobs::Job;
-use reference::calls::{Calls, Reference};
+use reference::calls::{Calls, IndexCalls, Over, Reference};
 use reference::random::Random;
 use reference::{Answer, Settings};
 use std::collections::BTreeSet;
 use std::env;
-use std::fmt::Debug;
+use std::fmt::{self, Arguments, Debug, Display, Formatter};
 use std::iter::repeat_with;
 
 const RECORD: usize = 8;
@@ -32,9 +33,12 @@ fn small_jobs_agree_with_the_reference() {
     let jobs = setting("HORNBEAMLET_JOBS", 20_000);
     let seen = compare_jobs(jobs, jobs::small);
     if jobs >= 5_000 {
-        let compared: BTreeSet<u64> = (0..=10).collect();
-        let stopped: BTreeSet<u64> = (0..=7).chain([9, 10, 19]).collect();
-        assert_eq!(seen, (compared, stopped), "some answers never came");
+        let all = Seen {
+            compared: (0..=10).chain([12]).collect(),
+            stopped: (0..=7).chain([9, 10, 12, 19]).collect(),
+            built: BTreeSet::from([0, 1, 5, 6, 10, 11]),
+        };
+        assert_eq!(seen, all, "some answers never came");
     }
 }
 
@@ -105,10 +109,19 @@ fn setting(name: &str, default: u64) -> u64 {
     env::var(name).map_or(default, |text| text.parse().expect(name))
 }
 
-/// Runs so many jobs and tells which numbers `compare` and `stopped` gave.
-fn compare_jobs(jobs: u64, make: fn(&mut Random) -> Job) -> (BTreeSet<u64>, BTreeSet<u64>) {
+/// Which numbers the sweeps gave, the plain ones and those over an index, and which
+/// came of building one.
+#[derive(Debug, Default, PartialEq)]
+struct Seen {
+    compared: BTreeSet<u64>,
+    stopped: BTreeSet<u64>,
+    built: BTreeSet<u64>,
+}
+
+/// Runs so many jobs and tells which numbers were given.
+fn compare_jobs(jobs: u64, make: fn(&mut Random) -> Job) -> Seen {
     let seed = setting("HORNBEAMLET_SEED", 1);
-    let mut seen = (BTreeSet::new(), BTreeSet::new());
+    let mut seen = Seen::default();
     with_library(|library| {
         for seed in seed..seed + jobs {
             let mut random = Random::new(seed);
@@ -119,8 +132,12 @@ fn compare_jobs(jobs: u64, make: fn(&mut Random) -> Job) -> (BTreeSet<u64>, BTre
                 proved: Proved(library),
             };
             let sizes = asked.needs();
-            seen.0.insert(asked.compares(&mut random, sizes));
-            seen.1.insert(asked.stops(&mut random));
+            let index = asked.index();
+            seen.built.insert(asked.builds(&mut random, index.len()));
+            let index = Index::given(&mut random, index);
+            seen.compared
+                .extend(asked.compares(&mut random, sizes, &index));
+            seen.stopped.extend(asked.stops(&mut random, &index));
         }
     });
     seen
@@ -138,47 +155,77 @@ impl Asked<'_> {
     /// are, none where the job is refused.
     fn needs(&self) -> (usize, usize) {
         let reply = self.need_by(&Reference);
-        self.agree("need", self.need_by(&self.proved), reply);
+        self.agree(format_args!("need"), &self.need_by(&self.proved), &reply);
         let records = u32::try_from(reply).unwrap_or(0) as usize;
         let enough = Room::new(RECORD * records, || 0);
         let short = self.compare_by(&Reference, &enough, &Room::new(0, || 0)).0;
-        let entries = if short.number == 8 { short.detail } else { 0 };
-        (records, entries as usize)
+        (records, lacking(8, short))
     }
 
-    /// Compares the answers and rooms of `compare`, and tells the number.
-    fn compares(&self, random: &mut Random, (records, entries): (usize, usize)) -> u64 {
+    /// Compares the answers and rooms of `compare`, over the index too, and tells
+    /// both numbers.
+    fn compares(
+        &self,
+        random: &mut Random,
+        (records, entries): (usize, usize),
+        index: &Index,
+    ) -> [u64; 2] {
         let work = Room::lend(random, RECORD, records);
         let list = Room::lend(random, ENTRY, entries);
-        let expected = self.compare_by(&Reference, &work, &list);
-        let given = self.compare_by(&self.proved, &work, &list);
-        let number = expected.0.number;
         let op = format!("compare work={} list={}", work.length, list.length);
-        self.agree(&op, given, expected);
-        number
+        self.sweeps(&op, index, |calls| self.compare_by(calls, &work, &list))
     }
 
     /// The records that a stopped sweep needs, which names one strand and has a
     /// need of its own.
     fn stopped_needs(&self) -> usize {
-        let short = self.stopped_by(&Reference, &Room::new(0, || 0), 0).0;
-        let records = if short.number == 7 { short.detail } else { 0 };
-        records as usize
+        lacking(7, self.stopped_by(&Reference, &Room::new(0, || 0), 0).0)
     }
 
-    /// Compares the answers and rooms of `stopped`, and tells the number.
-    fn stops(&self, random: &mut Random) -> u64 {
+    /// Compares the answers and rooms of `stopped`, over the index too, and tells
+    /// both numbers.
+    fn stops(&self, random: &mut Random, index: &Index) -> [u64; 2] {
         let work = Room::lend(random, RECORD, self.stopped_needs());
         let row = self.some_row(random);
-        let expected = self.stopped_by(&Reference, &work, row);
-        let given = self.stopped_by(&self.proved, &work, row);
-        let number = expected.0.number;
-        self.agree(
-            &format!("stopped work={} row={row}", work.length),
-            given,
-            expected,
-        );
-        number
+        let op = format!("stopped work={} row={row}", work.length);
+        self.sweeps(&op, index, |calls| self.stopped_by(calls, &work, row))
+    }
+
+    /// Compares what a sweep gives, plain and over the index. Over one that is right
+    /// the plain sweep tells what is due.
+    fn sweeps<T: Debug + PartialEq>(
+        &self,
+        op: &str,
+        index: &Index,
+        sweep: impl Fn(&dyn Calls) -> (Answer, T),
+    ) -> [u64; 2] {
+        let expected = sweep(&Reference);
+        self.agree(format_args!("{op}"), &sweep(&self.proved), &expected);
+        let plain = expected.0.number;
+        let expected = match index.right {
+            true => expected,
+            false => sweep(&index.over(&Reference)),
+        };
+        let given = sweep(&index.over(&self.proved));
+        self.agree(format_args!("index_{op} {index}"), &given, &expected);
+        [plain, expected.0.number]
+    }
+
+    /// The index, empty where it is refused.
+    fn index(&self) -> Vec<u32> {
+        let enough = Room::new(self.job.second.len(), || 0);
+        let (answer, mut room) = self.index_by(&Reference, &enough);
+        room.lent()[..answer.listed as usize].to_vec()
+    }
+
+    /// Compares the answers and rooms of `index`, and tells the number.
+    fn builds(&self, random: &mut Random, places: usize) -> u64 {
+        let room = Room::lend(random, 1, places);
+        let expected = self.index_by(&Reference, &room);
+        let given = self.index_by(&self.proved, &room);
+        let op = format_args!("index_build index={}", room.length);
+        self.agree(op, &given, &expected);
+        expected.0.number
     }
 
     fn need_by(&self, calls: &impl Calls) -> u64 {
@@ -186,17 +233,23 @@ impl Asked<'_> {
         calls.need(job.settings, &job.first, &job.second)
     }
 
-    fn compare_by(&self, calls: &impl Calls, work: &Room, list: &Room) -> (Answer, Room, Room) {
+    fn compare_by(&self, calls: &dyn Calls, work: &Room, list: &Room) -> (Answer, [Room; 2]) {
         let (job, mut work, mut list) = (self.job, work.clone(), list.clone());
         let (lent, listed) = (work.lent(), list.lent());
         let answer = calls.compare(job.settings, &job.first, &job.second, lent, listed);
-        (answer, work, list)
+        (answer, [work, list])
     }
 
-    fn stopped_by(&self, calls: &impl Calls, work: &Room, row: u32) -> (Answer, Room) {
+    fn stopped_by(&self, calls: &dyn Calls, work: &Room, row: u32) -> (Answer, Room) {
         let (job, mut work) = (self.job, work.clone());
         let answer = calls.stopped(job.settings, &job.first, &job.second, work.lent(), row);
         (answer, work)
+    }
+
+    fn index_by(&self, calls: &impl IndexCalls, room: &Room) -> (Answer, Room) {
+        let (Settings { k, mask, .. }, mut room) = (self.job.settings, room.clone());
+        let answer = calls.index(k, mask, &self.job.second, room.lent());
+        (answer, room)
     }
 
     /// Any row, the ends among them, and at times one past the last.
@@ -207,7 +260,7 @@ impl Asked<'_> {
         random.one_of(&[0, 1, any, any, any, last, last, last + 1, u32::MAX])
     }
 
-    fn agree<T: Debug + PartialEq>(&self, op: &str, given: T, expected: T) {
+    fn agree<T: Debug + PartialEq>(&self, op: Arguments, given: &T, expected: &T) {
         if given == expected {
             return;
         }
@@ -226,6 +279,73 @@ impl Asked<'_> {
             self.job.first.escape_ascii(),
             self.job.second.escape_ascii(),
         );
+    }
+}
+
+/// How much of a room is asked for by the refusal of this number, and nothing by
+/// another answer.
+fn lacking(number: u64, short: Answer) -> usize {
+    match short.number == number {
+        true => short.detail as usize,
+        false => 0,
+    }
+}
+
+/// What is given as an index.
+struct Index {
+    numbers: Vec<u32>,
+    /// Whether it begins with the index.
+    right: bool,
+}
+
+impl Index {
+    /// The index, one in five damaged, and at times with any numbers behind it.
+    fn given(random: &mut Random, index: Vec<u32>) -> Index {
+        let mut numbers = index.clone();
+        if random.chance(200) {
+            damage(random, &mut numbers);
+        }
+        let behind = random.one_of(&[0, 0, 1, 9]);
+        numbers.extend(repeat_with(|| random.number() as u32).take(behind));
+        Index {
+            right: numbers.starts_with(&index),
+            numbers,
+        }
+    }
+
+    fn over<'a, C>(&'a self, calls: &'a C) -> Over<'a, C> {
+        let index = &self.numbers;
+        Over { calls, index }
+    }
+}
+
+impl Display for Index {
+    fn fmt(&self, to: &mut Formatter) -> fmt::Result {
+        let numbers: Vec<String> = self.numbers.iter().map(u32::to_string).collect();
+        match numbers.is_empty() {
+            true => write!(to, "index=-"),
+            false => write!(to, "index={}", numbers.join(",")),
+        }
+    }
+}
+
+/// Numbers of an index lost, exchanged, written twice or made others: any, or
+/// neighbours, whose k-mers are often equal.
+fn damage(random: &mut Random, index: &mut Vec<u32>) {
+    let Some(last) = index.len().checked_sub(1) else {
+        return;
+    };
+    let [one, any] = [(); 2].map(|()| random.between(0, last));
+    let other = random.one_of(&[any, one.saturating_sub(1)]);
+    match random.below(5) {
+        0 => index.truncate(one),
+        1 => index.swap(one, other),
+        2 => index.insert(one, index[other]),
+        3 => drop(index.remove(one)),
+        _ => {
+            let number = random.number() as u32;
+            index[one] = random.one_of(&[0, u32::MAX, number, index[one] + 1, index[other]]);
+        }
     }
 }
 

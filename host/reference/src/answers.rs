@@ -59,7 +59,7 @@ pub struct Answer {
 }
 
 /// "0 | done | 0, 0", with the four tallies.
-fn done(listed: u64, matches: u64, widest: u64, links: u64) -> Answer {
+pub(crate) fn done(listed: u64, matches: u64, widest: u64, links: u64) -> Answer {
     Answer {
         number: 0,
         sequence: 0,
@@ -72,7 +72,7 @@ fn done(listed: u64, matches: u64, widest: u64, links: u64) -> Answer {
 }
 
 /// "On refusal all four are 0."
-fn refused(number: u64, sequence: u64, detail: u64) -> Answer {
+pub(crate) fn refused(number: u64, sequence: u64, detail: u64) -> Answer {
     Answer {
         number,
         sequence,
@@ -135,17 +135,27 @@ pub fn need(settings: Settings, first: &[u8], second: &[u8]) -> u64 {
 /// "Checks go from 1 to 8 [...] and the first that applies is given, even if a
 /// later one also does." These are 1 to 6, which leave the rooms untouched, "9,
 /// strand not 0 or 1, checked after 4", and "10, mask setting not 0 or 1, after 9".
-fn check_inputs(settings: Settings, first: &[u8], second: &[u8]) -> Result<(), Answer> {
-    check_setting(1, settings.k, 1..=31)?;
+pub(crate) fn check_inputs(settings: Settings, first: &[u8], second: &[u8]) -> Result<(), Answer> {
+    check_k(settings.k)?;
     check_setting(2, settings.b, 1..=1_024)?;
     check_setting(3, settings.a, 1..=1_024)?;
     check_setting(4, settings.m, 0..=16_384)?;
     check_setting(9, settings.strand, FORWARD..=REVERSE)?;
-    check_setting(10, settings.mask, 0..=1)?;
+    check_mask(settings.mask)?;
     check_length(1, first)?;
     check_length(2, second)?;
     check_letters(1, first)?;
     check_letters(2, second)
+}
+
+/// "k, the k-mer length | 1 to 31".
+pub(crate) fn check_k(k: u32) -> Result<(), Answer> {
+    check_setting(1, k, 1..=31)
+}
+
+/// "10, mask setting not 0 or 1".
+pub(crate) fn check_mask(mask: u32) -> Result<(), Answer> {
+    check_setting(10, mask, 0..=1)
 }
 
 /// "k, b, a, m outside the table", "strand not 0 or 1", or "mask setting not 0 or
@@ -159,7 +169,7 @@ fn check_setting(number: u64, value: u32, accepted: RangeInclusive<u32>) -> Resu
 }
 
 /// "a sequence too long, the first looked at first".
-fn check_length(which: u64, sequence: &[u8]) -> Result<(), Answer> {
+pub(crate) fn check_length(which: u64, sequence: &[u8]) -> Result<(), Answer> {
     if sequence.len() <= LONGEST {
         Ok(())
     } else {
@@ -169,7 +179,7 @@ fn check_length(which: u64, sequence: &[u8]) -> Result<(), Answer> {
 
 /// "a letter not among the fifteen; all of the first sequence before the
 /// second", the detail "its first such place".
-fn check_letters(which: u64, sequence: &[u8]) -> Result<(), Answer> {
+pub(crate) fn check_letters(which: u64, sequence: &[u8]) -> Result<(), Answer> {
     match first_bad_place(sequence) {
         None => Ok(()),
         Some(place) => Err(refused(6, which, place as u64)),

@@ -36,6 +36,28 @@ fn occurrences(sequence: &[u8], k: usize) -> Occurrences<'_> {
     found
 }
 
+/// "one for each place that has a k-mer: places ordered by packed code, equal codes
+/// by place".
+pub fn index(sequence: &[u8], k: usize) -> Vec<u32> {
+    let kmers = (1..=places(sequence.len(), k)).map(|place| (kmer_at(sequence, k, place), place));
+    let coded = kmers.filter_map(|(kmer, place)| Some((packed(kmer?), place as u32)));
+    let mut ordered: Vec<(u64, u32)> = coded.collect();
+    ordered.sort_unstable();
+    ordered.into_iter().map(|(_, place)| place).collect()
+}
+
+/// "A k-mer packs into two bits a base, A 0, C 1, G 2, T 3, the first base
+/// highest."
+fn packed(kmer: &[u8]) -> u64 {
+    let bits = |base: &u8| match base {
+        b'A' => 0,
+        b'C' => 1,
+        b'G' => 2,
+        _ => 3,
+    };
+    kmer.iter().fold(0, |above, base| 4 * above + bits(base))
+}
+
 /// "Match (i, j): both places have the same used k-mer."
 pub fn matches(k: usize, a: usize, first: &[u8], second: &[u8]) -> Rows {
     let in_first = occurrences(first, k);
@@ -91,6 +113,22 @@ mod tests {
     fn no_kmer_runs_across_an_n() {
         let rows = matches(2, 3, b"ACNAC", b"AC");
         assert_eq!(rows, vec![vec![], vec![1], vec![], vec![], vec![1]]);
+    }
+
+    #[test]
+    fn a_kmer_packs_with_its_first_base_highest() {
+        assert_eq!(packed(b"ACGT"), 0b00_01_10_11);
+        assert_eq!(packed(b"TGCA"), 0b11_10_01_00);
+        assert_eq!(packed(&[b'T'; 31]), (1 << 62) - 1);
+    }
+
+    #[test]
+    fn an_index_has_the_places_by_code_and_then_by_place() {
+        // AC 1 and 5, CA 4, GT 8, TA 9
+        assert_eq!(index(b"ACNCACNGTA", 2), [1, 5, 4, 8, 9]);
+        assert_eq!(index(b"TTTT", 1), [1, 2, 3, 4]);
+        assert_eq!(index(b"TGCA", 1), [4, 3, 2, 1]);
+        assert!(index(b"ACN", 3).is_empty() && index(b"AC", 3).is_empty());
     }
 
     #[test]

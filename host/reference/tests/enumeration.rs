@@ -3,7 +3,7 @@
 //! asked forward and over both strands, every sweep stopped on each strand. Half of
 //! the sequences have letters in lower case.
 
-use reference::{compare, need, stopped, Answer, Settings};
+use reference::{build_index, compare, need, stopped, Answer, Settings};
 use std::slice::from_ref;
 
 /// A small seeded generator (a multiplier, an addend and a high half).
@@ -430,6 +430,29 @@ fn check_stopped(seed: u64, job: &Job, strand: &Strand) {
     }
 }
 
+/// The index: behind how many others a place stands is counted for each, those whose
+/// letters come before its own and, of equal ones, those before it.
+fn check_index(seed: u64, job: &Job) {
+    let Settings { k, mask, .. } = job.settings;
+    let own = |place| kmer(job.settings, &job.second, place).map(|it| (it, place));
+    let found: Vec<(Vec<u8>, i64)> = (1..=job.places(&job.second)).filter_map(own).collect();
+    let mut expected = vec![0; found.len() + 2];
+    for it in &found {
+        let before = found.iter().filter(|&other| other < it).count();
+        expected[before] = it.1 as u32;
+    }
+    let mut index = lent(found.len() + 2);
+    let answer = build_index(k, mask, &job.second, &mut index);
+    let given = (answer, index);
+    assert_eq!(given, (done(found.len(), &[]), expected), "seed {seed}");
+    if let Some(short) = found.len().checked_sub(1) {
+        let mut index = lent(short);
+        let answer = build_index(k, mask, &job.second, &mut index);
+        let expected = (refused(11, found.len() as u64), vec![0; short]);
+        assert_eq!((answer, index), expected, "seed {seed}");
+    }
+}
+
 /// "W is at most (b + 1)(a - 1)." The link total "is at most
 /// M((b + 1) min(a - 1, b + 1) - 1). With a = 1 there are no matches".
 fn check_bounds(seed: u64, job: &Job, strand: &Strand) {
@@ -441,6 +464,7 @@ fn check_bounds(seed: u64, job: &Job, strand: &Strand) {
 }
 
 fn check(seed: u64, job: &Job, strands: &[Strand; 2]) {
+    check_index(seed, job);
     check_listing(seed, job, &strands[..1]);
     check_listing(seed, job, strands);
     for strand in strands {

@@ -1,7 +1,9 @@
 //! The examples in the registry, P1 to P11, the boundaries named there, the same
-//! on the reverse strand, and with letters in lower case.
+//! on the reverse strand, with letters in lower case, and over an index.
 
-use reference::{chain, compare, need, stopped, Answer, Settings};
+use reference::{
+    build_index, chain, compare, compare_indexed, need, stopped, stopped_indexed, Answer, Settings,
+};
 
 const STALE: u32 = 77;
 
@@ -471,6 +473,61 @@ fn turning_round_keeps_the_mask() {
 }
 
 const P1_INPUT: &str = "010702000200080000EC\n020312248045\n030312448024\n0400FC\n";
+
+/// It has AC at places 1 and 5, ca at 4, GT at 8 and TA at 9.
+const INDEXED: &[u8] = b"ACNcaCNGTA";
+
+#[test]
+fn an_index_has_its_places_by_kmer_and_then_by_place() {
+    let run = |mask, numbers| {
+        let mut index = vec![STALE; numbers];
+        let answer = build_index(2, mask, INDEXED, &mut index);
+        (answer, index)
+    };
+    assert_eq!(run(0, 5), (done([5, 0, 0, 0]), vec![1, 5, 4, 8, 9]));
+    assert_eq!(run(0, 6), (done([5, 0, 0, 0]), vec![1, 5, 4, 8, 9, 0]));
+    assert_eq!(run(0, 4), (refused(11, 0, 5), vec![0; 4]));
+    assert_eq!(run(1, 3), (done([3, 0, 0, 0]), vec![1, 8, 9]));
+}
+
+#[test]
+fn what_is_refused_where_an_index_is_built() {
+    let over = vec![b'u'; 16_385];
+    let cases: [(u32, u32, &[u8], Answer); 4] = [
+        (0, 2, &over, refused(1, 0, 0)),
+        (31, 2, &over, refused(10, 0, 0)),
+        (31, 1, &over, refused(5, 2, 0)),
+        (31, 1, b"ACuu", refused(6, 2, 3)),
+    ];
+    for (k, mask, second, refusal) in cases {
+        let mut index = [STALE; 2];
+        assert_eq!(build_index(k, mask, second, &mut index), refusal);
+        assert_eq!(index, [STALE; 2]);
+    }
+}
+
+/// P1's second sequence has its 2-mers in their order.
+#[test]
+fn p1_over_an_index() {
+    let run = |second: &[u8], index: &[u32], numbers: usize| {
+        let [mut work, mut list] = [vec![STALE; numbers], vec![STALE; 6]];
+        let settings = p1().settings;
+        let answer = compare_indexed(settings, b"ACCGT", second, index, &mut work, &mut list);
+        let stopped = stopped_indexed(settings, b"ACCGT", second, index, &mut work, 3);
+        ([answer, stopped], [list[0], work[0]])
+    };
+    let both = [done([1, 3, 2, 2]), done([2, 3, 2, 2])];
+    assert_eq!(run(b"ACGGT", &[1, 2, 3, 4], 16), (both, [1; 2]));
+    assert_eq!(run(b"ACGGT", &[1, 2, 3, 4, 4, 0], 16), (both, [1; 2]));
+    let short = [refused(7, 0, 2); 2];
+    assert_eq!(run(b"ACGGT", &[1, 2, 3, 4], 15), (short, [0; 2]));
+    for wrong in [&[][..], &[1, 2, 3], &[1, 2, 4, 3], &[0, 1, 2, 3]] {
+        let refused = [refused(12, 0, 0); 2];
+        assert_eq!(run(b"ACGGT", wrong, 15), (refused, [STALE; 2]));
+    }
+    let bad = [refused(6, 2, 5); 2];
+    assert_eq!(run(b"ACGGu", &[], 15), (bad, [STALE; 2]));
+}
 
 #[test]
 fn p1_through_chain() {

@@ -1,6 +1,7 @@
 -- `compare::compare` meets its contract: it refuses by the checks, or is the job on the codes of its own letters. Assumes nothing.
 use Rattle.refusals.proofs.Checking.{number-passes, accepted}
-use Rattle.compare.proofs.Entries.{refuses, Coded, rows-inside, front-long, fits, compares}
+use Rattle.kmers.proofs.Codes.{coded-front}
+use Rattle.compare.proofs.Entries.{refuses, Coded, fits, compares}
 use borrow.Author.Needs.{needs}
 use Rattle.compare.proofs.compare.Statement.{statement}
 use Rattle.compare.proofs.compare.Tie as tie
@@ -22,8 +23,7 @@ ready p =
     record {
       passed = number-passes (checking p .check .ensures) (p .before .before .if1 .left);
       rows-are = p .code-all .ensures .0;
-      rest = _;
-      filled = p .code-all .ensures .1;
+      codes-in = coded-front _ _ _ _ (p .code-all .ensures .0) (p .code-all .ensures .1);
     }
 
 returns : tie.Need-returns
@@ -48,10 +48,10 @@ code-all-requires c κs =
     (ok .some-base, (ok .few-bases, ok .short-first))
 
 array-share-prefix-codes : tie.Need-array-share-prefix-codes
-array-share-prefix-codes c = let a = entry c .args in rows-inside (a .settings) (a .first .now) (a .second .now) (ready c)
+array-share-prefix-codes c = ready c .codes-in .inside
 
 slice-aggregate-compare-coded : tie.Need-slice-aggregate-compare-coded
-slice-aggregate-compare-coded c = let p = c .before in let a = entry p .args in front-long (a .settings) (a .first .now) (a .second .now) (ready p)
+slice-aggregate-compare-coded c = ready (c .before) .codes-in .long
 
 compare-coded-requires : tie.Need-compare-coded-requires
 compare-coded-requires c κs = let p = c .before .before .before in let a = entry p .args in fits (a .settings) (a .first .now) (a .second .now) (ready p)

@@ -3,7 +3,8 @@ use mathlib.Core.Path.{ap}
 use native.Mathlib.Omega.{arith}
 use Rattle.rules.specs.declared.Answer.{Answer}
 use Rattle.refusals.proofs.Checking.{number-passes, number-small, accepted}
-use Rattle.compare.proofs.Entries.{refuses-need, Coded, rows-inside, front-long, fits, replies}
+use Rattle.kmers.proofs.Codes.{coded-front}
+use Rattle.compare.proofs.Entries.{refuses-need, Coded, fits, replies}
 use borrow.Author.Needs.{needs}
 use Rattle.compare.proofs.need.Statement.{statement}
 use Rattle.compare.proofs.need.Tie as tie
@@ -31,8 +32,7 @@ ready p =
     record {
       passed = number-passes (checking p .check .ensures) (p .before .before .if1 .left);
       rows-are = p .code-all .ensures .0;
-      rest = _;
-      filled = p .code-all .ensures .1;
+      codes-in = coded-front _ _ _ _ (p .code-all .ensures .0) (p .code-all .ensures .1);
     }
 
 add-result : tie.Need-add-result
@@ -50,10 +50,10 @@ code-all-requires c κs =
     (ok .some-base, (ok .few-bases, ok .short-first))
 
 array-share-prefix-codes : tie.Need-array-share-prefix-codes
-array-share-prefix-codes c = let a = entry c .args in rows-inside (a .settings) (a .first .now) (a .second .now) (ready c)
+array-share-prefix-codes c = ready c .codes-in .inside
 
 slice-aggregate-need-coded : tie.Need-slice-aggregate-need-coded
-slice-aggregate-need-coded c = let p = c .before in let a = entry p .args in front-long (a .settings) (a .first .now) (a .second .now) (ready p)
+slice-aggregate-need-coded c = ready (c .before) .codes-in .long
 
 need-coded-requires : tie.Need-need-coded-requires
 need-coded-requires c κs = let p = c .before in let a = entry p .args in fits (a .settings) (a .first .now) (a .second .now) (ready p)

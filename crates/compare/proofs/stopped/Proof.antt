@@ -1,6 +1,7 @@
 -- `compare::stopped` meets its contract: it refuses by the checks, or is the stopped sweep on the codes of its own letters. Assumes nothing.
 use Rattle.refusals.proofs.Checking.{number-passes, accepted}
-use Rattle.compare.proofs.Entries.{refuses-stop, Coded, rows-inside, front-long, fits, stops}
+use Rattle.kmers.proofs.Codes.{coded-front}
+use Rattle.compare.proofs.Entries.{refuses-stop, Coded, fits, stops}
 use borrow.Author.Needs.{needs}
 use Rattle.compare.proofs.stopped.Statement.{statement}
 use Rattle.compare.proofs.stopped.Tie as tie
@@ -28,8 +29,7 @@ ready p =
     record {
       passed = number-passes (checking p .check .ensures) (p .before .before .if1 .left);
       rows-are = p .code-all .ensures .0;
-      rest = _;
-      filled = p .code-all .ensures .1;
+      codes-in = coded-front _ _ _ _ (p .code-all .ensures .0) (p .code-all .ensures .1);
     }
 
 code-all-requires : tie.Need-code-all-requires
@@ -41,10 +41,10 @@ code-all-requires c κs =
     (ok .some-base, (ok .few-bases, ok .short-first))
 
 array-share-prefix-codes : tie.Need-array-share-prefix-codes
-array-share-prefix-codes c = let a = entry c .args in rows-inside (a .settings) (a .first .now) (a .second .now) (ready c)
+array-share-prefix-codes c = ready c .codes-in .inside
 
 slice-aggregate-stop-coded : tie.Need-slice-aggregate-stop-coded
-slice-aggregate-stop-coded c = let p = c .before in let a = entry p .args in front-long (a .settings) (a .first .now) (a .second .now) (ready p)
+slice-aggregate-stop-coded c = ready (c .before) .codes-in .long
 
 stop-coded-requires : tie.Need-stop-coded-requires
 stop-coded-requires c κs = let p = c .before .before in let a = entry p .args in fits (a .settings) (a .first .now) (a .second .now) (ready p)

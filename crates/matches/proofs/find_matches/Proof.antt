@@ -1,90 +1,30 @@
--- Owners of both sequences, next columns and counts by owner, and the rows of k-mers that are not used set to 0. Assumes nothing.
-use mathlib.Core.Path.{_≡_}
+-- The owners of both sequences, and the matches from them. Assumes nothing.
 use Prim.Native.Nat.{ℕ}
 use native.Mathlib.Omega.{arith}
-use lib.ListN.{length, replicate, length-replicate}
+use lib.ListN.{length-replicate}
 use borrow.Author.Needs.{needs}
-use Rattle.ownership.proofs.Owns.{owned-owns}
-use Rattle.totals.proofs.Counting.{all-zeros, tally-upto}
-use Rattle.totals.proofs.Striking.{struck-upto, all-struck, struck-capped}
-use Rattle.matches.proofs.Totals.{owned-upto, first-columns}
+use Rattle.ownership.proofs.Owns.{owned-again}
+use Rattle.matches.proofs.Totals.{firsts-over}
 use Rattle.matches.proofs.find_matches.Statement.{statement}
 use Rattle.matches.proofs.find_matches.Tie as tie
-
-room : length {A = ℕ} (replicate 16384 0) ≡ 16384
-room = length-replicate {A = ℕ} 16384 0
-
--- ---- the places that later ones look back to
 
 abbrev start : tie.After-own-all → tie.Start
 start c = c .before .before .before .before .before .before .before
 
-abbrev owned : tie.After-link-columns → tie.After-own-all
-owned c = c .before .before .before .before .before .before .before .before
-
-abbrev linked : tie.After-count-rows → tie.After-link-columns
-linked c = c .before .before .before .before .before .before .before
-
--- ---- the needs
-
-link-columns-requires : tie.Need-link-columns-requires
-link-columns-requires c κs =
-    let o = c .before .before .before .before .before .before .before in
-    let s = start o .pre in
-    let own = o .own-all .ensures .0 in
-    let few = s .1 .0 in
-    let z = all-zeros 16384 in
-    (few, (omega (arith, few, own .long, room), (omega (arith, few, room), (omega (arith, few, room), (s .1 .1 .1, (owned-owns own, (z, z)))))))
-
-count-rows-requires : tie.Need-count-rows-requires
-count-rows-requires c κs =
-    let l = c .before .before .before .before .before .before in
-    let counted = l .link-columns .ensures .1 in
-    let s = start (owned l) .pre in
-    let heads = owned l .own-all .ensures .1 in
-    let small = tally-upto (s .1 .0) (all-zeros 16384) counted in
-    (omega (arith, s .1 .1 .0, heads .long), (omega (arith, s .0), (owned-upto (omega arith) (omega (arith, s .1 .0, counted .sums .long, room)) heads, small)))
-
-cap-requires : tie.Need-cap-requires
-cap-requires c κs =
-    let rows = c .before .before .before .before .before .before in
-    let counted = rows .count-rows .ensures in
-    let s = start (owned (linked rows)) .pre in
-    let heads = owned (linked rows) .own-all .ensures .1 in
-    let same = linked rows .link-columns .ensures .1 .sums .long in (
-      omega (arith, s .1 .1 .0, heads .long, counted .1 .0 .rows .long),
-      struck-upto (counted .1 .0)
-          (owned-upto (omega arith) (omega (arith, s .1 .0, same, counted .0 .sums .long, room)) heads),
+finish-matches-requires : tie.Need-finish-matches-requires
+finish-matches-requires c κs =
+    let o = c .before .before .before .before .before .before in
+    let (rows, (few, (firsts, nexts))) = start o .pre in
+    let (own, heads) = o .own-all .ensures in (
+      rows,
+      (few, (omega (arith, few, own .long, length-replicate {A = ℕ} 16384 0), (omega (arith, firsts, heads .long), (nexts, (owned-again own, owned-again heads))))),
     )
 
 returns : tie.Need-returns
 returns c =
-    let capped = c .before .before in
-    let rows = capped .before .before .before .before .before .before .before in
-    let counted = rows .count-rows .ensures in
-    let links = linked rows .link-columns .ensures in
-    let s = start (owned (linked rows)) .pre in
-    let own = owned (linked rows) .own-all .ensures in
-    let firsts = first-columns (own .0) (own .1) (omega (arith, s .1 .0, room)) (all-zeros 16384) (links .1) (counted .0) in (
-      firsts
-          (struck-capped (counted .0) (owned-upto (omega arith) (omega (arith, s .1 .0, links .1 .sums .long, room)) (own .1)) (counted .1 .0)
-          (capped .cap .ensures)),
-      links .0,
-    )
-
-returns-2 : tie.Need-returns-2
-returns-2 c =
-    let rows = c .before .before .before .before in
-    let counted = rows .count-rows .ensures in
-    let links = linked rows .link-columns .ensures in
-    let s = start (owned (linked rows)) .pre in
-    let own = owned (linked rows) .own-all .ensures in
-    let firsts = first-columns (own .0) (own .1) (omega (arith, s .1 .0, room)) (all-zeros 16384) (links .1) (counted .0) in (
-      firsts
-          (all-struck (counted .0) (owned-upto (omega arith) (omega (arith, s .1 .0, links .1 .sums .long, room)) (own .1)) (counted .1 .0)
-          (counted .1 .1 .0 (c .if1 .left))),
-      links .0,
-    )
+    let f = c .before .before .before .before in
+    let o = f .before .before .before .before .before .before .before in
+    (firsts-over (o .own-all .ensures .1) (f .finish-matches .ensures .0), f .finish-matches .ensures .1)
 
 pub find-matches-spec : {M : Type 1} → statement M
 find-matches-spec =
@@ -93,16 +33,7 @@ find-matches-spec =
     (λ c. search needs)
     (λ c κs. search needs)
     (λ c. search needs)
+    finish-matches-requires
     (λ c. search needs)
     (λ c. search needs)
-    link-columns-requires
-    (λ c. search needs)
-    count-rows-requires
-    (λ c. search needs)
-    cap-requires
-    (λ c. search needs)
-    (λ c. search needs)
-    returns
-    (λ c. search needs)
-    (λ c. search needs)
-    returns-2)
+    returns)

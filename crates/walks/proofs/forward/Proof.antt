@@ -1,15 +1,11 @@
 -- `walks::forward` meets its contract: the pass wrote the codes of all places, and the matches are found from these. Assumes nothing.
-use mathlib.Core.Path.{_≡_, sym, ap, subst, _∙_}
+use mathlib.Core.Path.{subst}
 use mathlib.Core.List.{List}
-use Prim.Native.Nat.{ℕ, _≤_}
+use Prim.Native.Nat.{ℕ}
 use native.Mathlib.Omega.{arith}
-use lib.ListN.{length, take, length-append}
 use Rattle.rules.specs.Letters.{asRead}
-use Rattle.rules.specs.Places.{places}
 use Rattle.rules.specs.Codes.{codes}
-use Rattle.rules.proofs.Kmers.{codes-length}
-use Rattle.rules.proofs.Masks.{read-places}
-use Rattle.kmers.proofs.Codes.{codes-front, places-few}
+use Rattle.kmers.proofs.Codes.{Front, coded-front, places-few}
 use Rattle.nexts.specs.Nexts.{NextColumns}
 use Rattle.matches.specs.Columns.{FirstColumns}
 use borrow.Author.Needs.{needs}
@@ -20,41 +16,30 @@ use Rattle.walks.proofs.forward.Tie as tie
 abbrev start : tie.After-code-all → tie.Start
 start p = p .before .before .before .before .before .before
 
--- the second sequence as it is read
-abbrev read : tie.After-code-all → List ℕ
-read p = let a = start p .args in asRead (a .c .mask) (a .second .now)
-
-columns-are : (p : tie.After-code-all) → p .code-all .result ≡ places (start p .args .c .k) (read p)
-columns-are p = let a = start p .args in p .code-all .ensures .0 ∙ sym (read-places (a .c .mask) (a .c .k) (a .second .now))
-
--- what stands in front of the array
-codes-are : (p : tie.After-code-all) → take (p .code-all .result) (p .code-all .last .1 .1 .1 .0) ≡ codes (start p .args .c .k) (read p)
-codes-are p = codes-front (start p .args .c .k) (read p) _ (columns-are p) (p .code-all .ensures .1)
-
-codes-long : (p : tie.After-code-all) → length (take (p .code-all .result) (p .code-all .last .1 .1 .1 .0)) ≡ places (start p .args .c .k) (read p)
-codes-long p = ap length (codes-are p) ∙ codes-length (start p .args .c .k) (read p)
-
-few : (p : tie.After-code-all) → places (start p .args .c .k) (read p) ≤ 16384
-few p =
-    let s = start p in
-    let a = s .args in
-    let f = s .pre .0 in
-    rw (read-places (a .c .mask) (a .c .k) (a .second .now)) (places-few (a .c .k) (a .second .now) (f .some-base) (f .short-second))
+-- there its codes stand in front of the array
+coded : (p : tie.After-code-all)
+    → let a = start p .args in Front (codes (a .c .k) (asRead (a .c .mask) (a .second .now))) (p .code-all .last .1 .1 .1 .0) (p .code-all .result)
+coded p = let a = start p .args in coded-front (a .c .k) (a .c .mask) (a .second .now) _ (p .code-all .ensures .0) (p .code-all .ensures .1)
 
 array-share-prefix-codes : tie.Need-array-share-prefix-codes
-array-share-prefix-codes c =
-    let a = start c .args in
-    omega (arith, columns-are c, simp length-append at (ap length (c .code-all .ensures .1)), codes-length (a .c .k) (read c))
+array-share-prefix-codes c = coded c .inside
 
 slice-aggregate-find-matches : tie.Need-slice-aggregate-find-matches
-slice-aggregate-find-matches c = let p = c .before in columns-are p ∙ sym (codes-long p)
+slice-aggregate-find-matches c = coded (c .before) .long
 
 find-matches-requires : tie.Need-find-matches-requires
 find-matches-requires c κs =
     let p = c .before .before .before in
     let s = start p in
-    let rows = s .pre .0 .few-rows in
-    (rows, (omega (arith, codes-long p, few p), (omega (arith, rows, s .pre .1 .0), omega (arith, codes-long p, few p, s .pre .1 .1))))
+    let a = s .args in
+    let fits = s .pre .0 in
+    let rows = fits .few-rows in
+    let few = places-few (a .c .k) (a .second .now) (fits .some-base) (fits .short-second) in
+    let long = coded p .long in
+    let count = p .code-all .ensures .0 in (
+      rows,
+      (omega (arith, long, count, few), (omega (arith, rows, s .pre .1 .0), omega (arith, long, count, few, s .pre .1 .1))),
+    )
 
 returns : tie.Need-returns
 returns c =
@@ -65,8 +50,8 @@ returns c =
     let firsts = m .find-matches .last .1 .1 .1 .0 in
     let nexts = m .find-matches .last .1 .1 .1 .1 .0 in
     record {
-      first = subst (λ (l : List ℕ). FirstColumns (a .coded .now) l (a .c .a) (a .firsts .now) firsts) (codes-are p) (m .find-matches .ensures .0);
-      next = subst (λ (l : List ℕ). NextColumns l (a .nexts .now) nexts) (codes-are p) (m .find-matches .ensures .1);
+      first = subst (λ (l : List ℕ). FirstColumns (a .coded .now) l (a .c .a) (a .firsts .now) firsts) (coded p .front) (m .find-matches .ensures .0);
+      next = subst (λ (l : List ℕ). NextColumns l (a .nexts .now) nexts) (coded p .front) (m .find-matches .ensures .1);
     }
 
 pub forward-spec : {M : Type 1} → statement M

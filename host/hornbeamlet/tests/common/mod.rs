@@ -2,10 +2,10 @@
 //! both and their answers compared whole.
 
 use hornbeamlet::Library;
-use reference::calls::Calls;
+use reference::calls::{Calls, IndexCalls};
 use reference::{Answer, Settings};
 
-/// The library as one who answers the three calls.
+/// The library as one who answers all calls.
 pub struct Proved<'a>(pub &'a Library);
 
 impl Calls for Proved<'_> {
@@ -35,6 +35,44 @@ impl Calls for Proved<'_> {
 
     fn need(&self, settings: Settings, first: &[u8], second: &[u8]) -> u64 {
         self.0.need(to_library(settings), first, second)
+    }
+}
+
+impl IndexCalls for Proved<'_> {
+    fn index(&self, k: u32, mask: u32, second: &[u8], index: &mut [u32]) -> Answer {
+        from_library(self.0.index(k, mask, second, index))
+    }
+
+    fn compare_indexed(
+        &self,
+        settings: Settings,
+        first: &[u8],
+        second: &[u8],
+        index: &[u32],
+        work: &mut [u32],
+        list: &mut [u32],
+    ) -> Answer {
+        let settings = to_library(settings);
+        let answer = self
+            .0
+            .compare_indexed(settings, first, second, index, work, list);
+        from_library(answer)
+    }
+
+    fn stopped_indexed(
+        &self,
+        settings: Settings,
+        first: &[u8],
+        second: &[u8],
+        index: &[u32],
+        work: &mut [u32],
+        row: u32,
+    ) -> Answer {
+        let settings = to_library(settings);
+        let answer = self
+            .0
+            .stopped_indexed(settings, first, second, index, work, row);
+        from_library(answer)
     }
 }
 

@@ -1,0 +1,3 @@
+pub mod Sorting
+pub mod Checking
+pub mod Endings

@@ -1,0 +1,4 @@
+pub mod Rows
+pub mod Strands
+pub mod Matching
+pub mod Unique

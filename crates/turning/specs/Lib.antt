@@ -1,0 +1,2 @@
+-- Runs of equal keys, and a run turned round.
+pub mod Turning
