@@ -48,6 +48,10 @@ module _ {keys : List ℕ} {from n to : ℕ} (w : RunFrom keys from n to) where
 
 -- ---- a run turned, up to index q
 
+-- a place of the columns can be counted from any number past them
+pub place-fits : {index : List ℕ} {columns from to q past : ℕ} → Within index columns from to → from ≤ q → q < to → columns ≤ past → getD index q 0 ≤ past
+place-fits {q = q} w a b l = omega (arith, w .within q a b)
+
 pub record TurnedTo (index : List ℕ) (columns from to : ℕ) (out₀ out : List ℕ) (q : ℕ) : Type 0 where
   pub after : from ≤ q
   pub upto : q ≤ to

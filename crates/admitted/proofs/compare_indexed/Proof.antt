@@ -1,5 +1,6 @@
 -- The job on the walks of both strands, found over the index, is the job on their matches. Assumes nothing.
 use mathlib.Core.Path.{sym}
+use native.Mathlib.Omega.{arith}
 use Rattle.rules.specs.Letters.{asRead}
 use Rattle.rules.proofs.Masks.{read-length}
 use Rattle.walks.proofs.Matching.{BothMatched}
@@ -45,7 +46,7 @@ compare-matches-requires c κs =
     let b = found (c .before .before .before .before) in
     let ok = start b .pre .0 in
     let m = walked b in
-    (walks-fit ok (m .forward), (walks-fit ok (m .reverse), ok .short-second))
+    (walks-fit ok (m .forward), (walks-fit ok (m .reverse), omega (arith, ok .short-second, start b .pre .1 .0 .fits .short-first)))
 
 returns : tie.Need-returns
 returns c =

@@ -1,8 +1,8 @@
 -- Each turn writes one place, counted from the last, and touches no other number. Assumes nothing.
 use mathlib.Core.Path.{refl}
-use Prim.Native.Nat.{_+_, _-_}
+use Prim.Native.Nat.{_-_}
 use native.Mathlib.Omega.{arith}
-use Rattle.turning.proofs.Runs.{TurnedTo, turned-start, turned-next, turned-end}
+use Rattle.turning.proofs.Runs.{place-fits, TurnedTo, turned-start, turned-next, turned-end}
 use borrow.Author.Needs.{needs}
 use Rattle.turning.proofs.turn_run.Statement.{statement}
 use Rattle.turning.proofs.turn_run.Tie as tie
@@ -19,10 +19,7 @@ loop-holds c = turned-start (c .pre .0)
 sub-out-3 : tie.Need-sub-out-3 Inv-loop μ-loop
 sub-out-3 c =
     let t = c .before in
-    let l = t .before .loop in
-    let asked = t .before .before .pre in
-    let a = t .before .before .args in
-    omega (arith, asked .1 .1 .1 .1 .within (a .from + (a .to - 1 - l .q)) (omega arith) (omega (arith, t .loop-test .taken, l .inv .after)))
+    place-fits (t .before .before .pre .1 .1 .1 .1) (omega (arith, t .before .loop .inv .after)) (omega (arith, t .loop-test .taken, t .before .loop .inv .after)) (omega arith)
 
 mul-out : tie.Need-mul-out Inv-loop μ-loop
 mul-out c = omega (arith, c .loop-test .taken, c .before .loop .inv .after, c .before .before .pre .1 .0, c .before .before .good)
