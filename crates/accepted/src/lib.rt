@@ -1,5 +1,7 @@
 // A job that the checks let pass, from the codes of its first sequence and the letters of its second: matched, and then compared, stopped after a row, or
 // only measured. The codes can serve any number of second sequences.
+#![tactic(auto)]
+
 ghost use Rattle.std.specs.Prelude.{◌≡◌, []};
 ghost use Rattle.rules.specs.Letters.{as_read};
 ghost use Rattle.rules.specs.Answers.{left};

@@ -1,5 +1,7 @@
 // A job that the checks let pass and whose index is right: matched over the index, and then compared or stopped after a row, as `accepted` does it over the
 // letters.
+#![tactic(auto)]
+
 ghost use Rattle.std.specs.Prelude.{◌≡◌, []};
 ghost use Rattle.rules.specs.Letters.{as_read};
 ghost use Rattle.rules.specs.Answers.{left};

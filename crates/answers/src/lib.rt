@@ -1,4 +1,6 @@
 // The making of answers: a refusal, a job that is done, and an answer as the numbers that cross the C boundary.
+#![tactic(auto)]
+
 ghost use Rattle.std.specs.Prelude.{◌≡◌};
 ghost use Rattle.rules.specs.Answers.{refusal, done as done_with};
 ghost use Rattle.answers.specs.Numbers.{answer_numbers};

@@ -1,4 +1,6 @@
 // The entry point that builds an index: the places of a sequence that have a k-mer, by packed code, equal codes by place.
+#![tactic(auto)]
+
 ghost use Rattle.std.specs.Prelude.{◌≡◌, ◌≤◌, length};
 ghost use Rattle.requests.specs.Index.{left_index, checked_index, building_index, built_index};
 ghost use Rattle.building.specs.Raised.{Raised, Small};

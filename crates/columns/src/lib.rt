@@ -1,4 +1,6 @@
 // Every column's owner from an index: equal codes stand side by side in it, by place, so the first place of a run owns the run.
+#![tactic(auto)]
+
 ghost use Rattle.std.specs.Prelude.{◌≡◌, cond, ◌≤◌, eqb, length};
 ghost use Rattle.requests.specs.Index.{kmer_places};
 ghost use Rattle.index.specs.Keys.{Indexed};

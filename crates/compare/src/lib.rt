@@ -1,5 +1,7 @@
 // The entry points: checks, the codes of the first sequence, and the job. None asks anything of its caller: every setting, sequence and room gets an answer,
 // and every number of the rooms is stated.
+#![tactic(auto)]
+
 ghost use Rattle.std.specs.Prelude.{◌≡◌, []};
 ghost use Rattle.rules.specs.Answers.{left, compared, stopped as stopped_by, replied};
 

@@ -1,4 +1,6 @@
 // A frame read from its line of hexadecimal, or what is wrong with the line.
+#![tactic(auto)]
+
 ghost use Rattle.std.specs.Prelude.{◌≡◌, ◌+◌, ◌*◌, ◌%◌, ◌<◌, ◌≤◌, true, length};
 ghost use Rattle.std.proofs.lemmas.List.Edits.{sets};
 ghost use Rattle.lines.specs.Writing.{byte_sum};
@@ -78,7 +80,7 @@ fn decode(line: &[u8], bytes: &mut [u8]) -> Decoded
 }
 
 // What a line holds: its kind and how many bytes of payload; or the number 20, 21 or 22 of what is wrong with it.
-#[derive(Drop)]
+#[derive(Clone, Copy)]
 pub struct Frame {
     pub number: u64,
     pub kind: u8,

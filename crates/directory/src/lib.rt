@@ -1,6 +1,8 @@
 // The rows of a job looked up in an index. A row's code is first held against the column behind the one that the row before it met, as neighbours mostly
 // match neighbours; else a directory of 65,536 buckets by the leading bits of a code tells where its places must end, and what lies before that is reached
 // for by doubled steps and then halved. No letters are compared and nothing is sorted; a bucket that holds the whole index costs 30 looks a row.
+#![tactic(auto)]
+
 ghost use Rattle.std.specs.Prelude.{◌≡◌, ◌-◌, ◌*◌, ◌^◌, ◌≤◌, ◌<◌, length};
 ghost use Rattle.requests.specs.Index.{kmer_places};
 ghost use Rattle.index.specs.Keys.{Indexed};

@@ -1,4 +1,6 @@
 // Entries in list room, one in each six numbers: forward entries put behind each other, and reverse ones turned back. Below the frames no other code knows this layout.
+#![tactic(auto)]
+
 ghost use Rattle.std.specs.Prelude.{◌≡◌, ◌+◌, ◌*◌, ◌≤◌, length};
 ghost use Rattle.rules.specs.Strands.{turned};
 ghost use Rattle.entries.specs.Layout.{put_entry, turn_entry, turn_entries};

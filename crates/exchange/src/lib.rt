@@ -1,4 +1,6 @@
 // The whole of the program but its reading and writing: from an input's bytes to an output's.
+#![tactic(auto)]
+
 ghost use Rattle.std.specs.Prelude.{◌≡◌};
 ghost use Rattle.exchange.specs.Whole.{output_length, output_left};
 

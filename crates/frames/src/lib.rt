@@ -1,4 +1,6 @@
 // Every kind of frame by its number and values: what crosses the C boundary, written and read.
+#![tactic(auto)]
+
 ghost use Rattle.std.specs.Prelude.{◌≡◌, get_or};
 ghost use Rattle.rules.specs.Lists.{then_zeros};
 ghost use Rattle.frames.specs.Frames.{entry_of, entry_values, done_of, done_values, refused_of, refused_values, job_wanted, piece_wanted, frame_wanted, wanted_written, wanted_left, reply_of, frame_reply, frame_left, read_frame};

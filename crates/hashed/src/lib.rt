@@ -1,5 +1,7 @@
 // Owners by a chained table: for each hash a list of first columns, the last one first. It is quick while its lists are short, and says so where
 // one grows too long.
+#![tactic(auto)]
+
 ghost use Rattle.std.specs.Prelude.{◌≡◌, true, ◌+◌, ◌<◌, ◌≤◌, length};
 ghost use Rattle.ownership.specs.Owners.{own_of, FirstAt, Owned, Kept};
 ghost use Rattle.hashed.specs.Table.{hash_of, Table, Found};

@@ -1,5 +1,7 @@
 // The C boundary: the entry points on plain numbers and slices, each slice a pointer and a length. Thin: all is done in `compare`,
 // `building`, `indexed` and `frames`.
+#![tactic(auto)]
+
 ghost use Rattle.std.specs.Prelude.{◌≡◌};
 ghost use Rattle.rules.specs.Entered.{settings};
 ghost use Rattle.rules.specs.Answers.{compared, stopped as stopped_by, replied};

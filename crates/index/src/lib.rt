@@ -1,5 +1,7 @@
 // A slice held against the codes of a sequence: does it begin with the index of these codes? One linear pass decides it, and keeps the code of each number
 // of the index, its key, so that nothing above looks a code up by its place again.
+#![tactic(auto)]
+
 ghost use Rattle.std.specs.Prelude.{◌≡◌, ◌≤◌, length};
 ghost use Rattle.rules.specs.Codes.{code_at};
 ghost use Rattle.requests.specs.Index.{index_of_codes, kmer_places, begins_with};

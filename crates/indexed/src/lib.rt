@@ -1,5 +1,7 @@
 // The entry points over an index: the checks, then 12, then what `compare` does without one. None asks anything of its caller: every setting, sequence, slice
 // and room gets an answer, and every number of the rooms is stated; the slice is only read.
+#![tactic(auto)]
+
 ghost use Rattle.std.specs.Prelude.{◌≡◌, []};
 ghost use Rattle.rules.specs.Answers.{left};
 ghost use Rattle.requests.specs.Index.{compared_over, stopped_over};

@@ -1,4 +1,6 @@
 // The program's input: one job, any number of pieces of the first sequence, any number of the second, one end.
+#![tactic(auto)]
+
 ghost use Rattle.std.specs.Prelude.{◌≡◌, ◌+◌, ◌≤◌, length, drop};
 ghost use Rattle.lines.specs.Writing.{in_front};
 ghost use Rattle.input.specs.Lines.{line_size};

@@ -1,4 +1,6 @@
 // The compare job once the matches of both strands are known: tallies, the room checks, the sweeps, and the rooms as they are left. No letters here.
+#![tactic(auto)]
+
 ghost use Rattle.std.specs.Prelude.{◌≡◌, ◌+◌, ◌≤◌, length};
 ghost use Rattle.matches.specs.Walks.{walked, WalkSafe};
 ghost use Rattle.rules.specs.Rooms.{pairs};

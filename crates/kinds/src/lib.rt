@@ -1,4 +1,6 @@
 // What the frames' kinds carry: their values, whether these fit their fields, and the bytes of a payload.
+#![tactic(auto)]
+
 ghost use Rattle.std.specs.Prelude.{◌≡◌, ◌++◌, length};
 ghost use Rattle.payloads.specs.Numbers.{number_bytes};
 ghost use Rattle.payloads.specs.Pieces.{codes_fit};
@@ -7,14 +9,14 @@ ghost use Rattle.kinds.specs.Kinds.{job_numbers, job_payload, job_fits, entry_pa
 use rules::Settings;
 
 // The places of a sequence that an entry spans.
-#[derive(Drop)]
+#[derive(Clone, Copy)]
 pub struct Span {
     pub start: u64,
     pub end: u64,
 }
 
 // The five numbers of an entry. Its frame's kind tells its strand.
-#[derive(Drop)]
+#[derive(Clone, Copy)]
 pub struct Entry {
     pub first: Span,
     pub second: Span,
@@ -22,7 +24,7 @@ pub struct Entry {
 }
 
 // What a job that was done comes to.
-#[derive(Drop)]
+#[derive(Clone, Copy)]
 pub struct Done {
     // entries listed
     pub listed: u64,
@@ -35,7 +37,7 @@ pub struct Done {
 }
 
 // Why a job, or an input, was refused. Of an input the sequence is 0 and the detail its line.
-#[derive(Drop)]
+#[derive(Clone, Copy)]
 pub struct Refused {
     pub number: u64,
     pub sequence: u64,

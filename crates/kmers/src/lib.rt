@@ -1,4 +1,6 @@
 // The k-mers of a sequence, as its letters are read under a mask setting, packed into two bits a base.
+#![tactic(auto)]
+
 ghost use Rattle.std.specs.Prelude.{◌≡◌, cond, ◌++◌, suc, ◌+◌, ◌-◌, ◌*◌, ◌^◌, ◌%◌, ◌<◌, ◌≤◌, leb, length, drop};
 ghost use Rattle.rules.specs.Letters.{stands_for, as_read};
 ghost use Rattle.rules.specs.Places.{places as places_in, base_of};

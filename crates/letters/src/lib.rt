@@ -1,4 +1,6 @@
 // The fifteen letters, in capitals or masked, their codes and their complements.
+#![tactic(auto)]
+
 ghost use Rattle.std.specs.Prelude.{◌≡◌, ◌++◌, ◌≤◌, length, drop};
 ghost use Rattle.rules.specs.Letters.{letter_of, read_letter, code_of, bad_place, complement, reverse_complement};
 ghost use Rattle.letters.specs.Capitals.{capital_codes, capital_complements, at_capital};

@@ -1,5 +1,7 @@
 // The link total of a job, counted from its matches before any record is made: how many left extensions all matches have together.
 // Matches come as walks: row p + 1 begins in column firsts[p], and after column j comes column nexts[j - 1]; 0 ends a row.
+#![tactic(auto)]
+
 ghost use Rattle.std.specs.Prelude.{◌≡◌, ◌<◌, ◌≤◌, length};
 ghost use Rattle.rules.specs.Rooms.{pairs};
 ghost use Rattle.matches.specs.Walks.{walked, NextsSafe, WalkSafe};

@@ -1,4 +1,6 @@
 // Rows that leave the room: a record is released once no later row can extend it, and then it is known whether its match is listed.
+#![tactic(auto)]
+
 ghost use Rattle.std.specs.Prelude.{◌≡◌, ◌+◌, ◌-◌, ◌^◌, ◌≤◌, ◌<◌};
 ghost use Rattle.listing.specs.Leaving.{later_in, some_from, passes, listed_count, listed_room, ReleaseSafe, ReleaseDone};
 

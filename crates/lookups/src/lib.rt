@@ -1,5 +1,7 @@
 // Which columns each row matches, told from codes and an index of the second sequence's: what `matches` tells from codes alone, with nothing hashed and nothing
 // sorted.
+#![tactic(auto)]
+
 ghost use Rattle.std.specs.Prelude.{◌≡◌, ◌≤◌, ◌<◌, length};
 ghost use Rattle.requests.specs.Index.{kmer_places};
 ghost use Rattle.index.specs.Keys.{Indexed};

@@ -1,5 +1,7 @@
 // Which columns each row matches, told from the codes of both sequences alone: for each row the first column that it matches, and for
 // each column the next one with the same k-mer. Walking from the one by the other is the row's matches in order.
+#![tactic(auto)]
+
 ghost use Rattle.std.specs.Prelude.{◌≤◌, length};
 ghost use Rattle.ownership.specs.Owners.{Owned};
 ghost use Rattle.nexts.specs.Nexts.{NextColumns};

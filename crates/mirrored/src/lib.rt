@@ -1,6 +1,8 @@
 // The matches of either strand from one index of the second sequence, never turned: what `walks` tells from its letters. For the reverse strand the first
 // sequence is turned instead, and rows, columns and the places of each code are read from the last to the first. Local arrays hold letters, codes and
 // places, no records.
+#![tactic(auto)]
+
 ghost use Rattle.std.specs.Prelude.{◌≡◌, ◌++◌, ◌≤◌, length, drop};
 ghost use Rattle.rules.specs.Places.{places};
 ghost use Rattle.mirrored.specs.Mirrored.{row_codes, Fits, FitsCoded, Columns, BothColumns};

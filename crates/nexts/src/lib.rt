@@ -1,4 +1,6 @@
 // For each column the next one with the same k-mer. The same walk over the columns counts their k-mers, so that none is taken for that alone.
+#![tactic(auto)]
+
 ghost use Rattle.std.specs.Prelude.{◌≤◌, length};
 ghost use Rattle.ownership.specs.Owners.{Owns};
 ghost use Rattle.totals.specs.Steps.{Zeros, Tallied};

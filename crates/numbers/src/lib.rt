@@ -1,5 +1,7 @@
 // Casts that ask nothing of their caller and say what the value still is, and two steps on numbers that no sum or difference of theirs can break.
 // Rows, columns and settings are 32-bit numbers; slices count in usize, totals in 64 bits.
+#![tactic(auto)]
+
 ghost use Rattle.std.specs.Prelude.{◌≡◌, ◌-◌, ◌<◌, max};
 
 pub fn wide(x: u32) -> usize

@@ -1,4 +1,6 @@
 // Owners by a sort of the places: the way out where the table's lists grow too long, never worse than n log n, whatever the codes are.
+#![tactic(auto)]
+
 ghost use Rattle.std.specs.Prelude.{◌≡◌, ◌≤◌, length};
 ghost use Rattle.order.specs.Order.{Ordered};
 ghost use Rattle.ownership.specs.Owners.{own_of, Owned};

@@ -1,4 +1,6 @@
 // The whole output of a job, as lines of frames.
+#![tactic(auto)]
+
 ghost use Rattle.std.specs.Prelude.{◌≡◌, true, ◌++◌, ◌+◌, ◌*◌, ◌≤◌, length, drop};
 ghost use Rattle.rules.specs.Lists.{laid};
 ghost use Rattle.lines.specs.Writing.{in_front, written, leaves};

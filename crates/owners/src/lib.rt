@@ -1,5 +1,7 @@
 // Every column's owner and every row's, by the table while its lists are short, and else by the sort. The result is the same by contract, so that only
 // time depends on the hash.
+#![tactic(auto)]
+
 ghost use Rattle.std.specs.Prelude.{◌≤◌, length};
 ghost use Rattle.ownership.specs.Owners.{Owned};
 

@@ -1,4 +1,6 @@
 // What stands in a frame: numbers, highest byte first, letter codes, two a byte, and the line of a kind with so many bytes of payload.
+#![tactic(auto)]
+
 ghost use Rattle.std.specs.Prelude.{◌≡◌, true, ◌+◌, ◌*◌, ◌%◌, ◌^◌, ◌<◌, ◌≤◌, length, get_or};
 ghost use Rattle.std.proofs.lemmas.List.Edits.{sets};
 ghost use Rattle.decoding.specs.Reading.{bytes_left};

@@ -1,4 +1,6 @@
 // A piece of a sequence as a payload carries it, two letters' codes a byte: whether it is one, and its letters put behind those that the sequence has.
+#![tactic(auto)]
+
 ghost use Rattle.std.specs.Prelude.{◌≡◌, true, [], ◌∷◌, ◌+◌, ◌≤◌, length};
 ghost use Rattle.std.proofs.lemmas.List.Edits.{sets};
 ghost use Rattle.payloads.specs.Pieces.{all_codes, codes_in};

@@ -1,5 +1,7 @@
 // The predecessor of a match, found by walking columns down from its own. A column is known by the running number of its latest record: of two left
 // extensions the one at or beyond the other in both sequences weighs strictly more (CR 3), so what is overtaken never wins.
+#![tactic(auto)]
+
 ghost use Rattle.std.specs.Prelude.{◌≡◌, cond, ◌+◌, ◌-◌, ◌*◌, ◌≤◌, ◌<◌, leb, length};
 ghost use Rattle.rules.specs.Records.{beats, better};
 ghost use Rattle.records.specs.Layout.{record_in};
@@ -10,7 +12,7 @@ use rules::Record;
 
 // The slots of work room in use, as a ring: the record with running number g, which counts from 0, lies in slot (g + origin) mod size. Nothing is
 // moved, and a slot is used again once its record is released.
-#[derive(Drop)]
+#[derive(Clone, Copy)]
 pub struct Ring {
     pub size: usize,
     pub origin: usize,

@@ -1,4 +1,6 @@
 // A reader of one line for an entry of either strand, done and refused. What the writers write is read back.
+#![tactic(auto)]
+
 ghost use Rattle.std.specs.Prelude.{◌≡◌};
 ghost use Rattle.readers.specs.Readers.{read_entry_of, read_entry, read_reverse, read_done, read_refused};
 

@@ -1,4 +1,6 @@
 // Records in work room, one in each slot of eight numbers. No other code knows this layout.
+#![tactic(auto)]
+
 ghost use Rattle.std.specs.Prelude.{◌≡◌, ◌+◌, ◌*◌, ◌≤◌, length};
 ghost use Rattle.records.specs.Layout.{record_in, put_record};
 

@@ -1,4 +1,6 @@
 // The checks that need no room, in pieces: each gives the refusal that applies, or number 0.
+#![tactic(auto)]
+
 ghost use Rattle.std.specs.Prelude.{◌≡◌, [], ◌∷◌};
 ghost use Rattle.rules.specs.Answers.{outside, settings_checks, length_check, letter_check, given, checked};
 

@@ -1,4 +1,6 @@
 // Rooms: how many records and entries they hold, and zeros after those. A record takes eight numbers of work room, an entry six of list room.
+#![tactic(auto)]
+
 ghost use Rattle.std.specs.Prelude.{◌≡◌, ◌++◌, ◌*◌, ◌-◌, ◌^◌, ◌≤◌, ◌<◌, min, length, take, replicate};
 ghost use Rattle.rules.specs.Lists.{zeros};
 ghost use Rattle.rules.specs.Rooms.{work_holds, list_holds};

@@ -1,4 +1,6 @@
 // A row of matches stored as records: for each, its predecessor is found and its record goes behind the others.
+#![tactic(auto)]
+
 ghost use Rattle.std.specs.Prelude.{◌≡◌, ◌+◌, ◌*◌, ◌^◌, ◌<◌, ◌≤◌, length};
 ghost use Rattle.rules.specs.Matches.{cell};
 ghost use Rattle.records.specs.Layout.{put_record};

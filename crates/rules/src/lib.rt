@@ -1,7 +1,8 @@
 // The kinds of value that the crates above share with the rules. There is no code here: what they mean is in specs/.
+#![tactic(auto)]
 
 // What the user enters.
-#[derive(Drop)]
+#[derive(Clone, Copy)]
 pub struct Settings {
     // the k-mer length
     pub k: u32,
@@ -27,14 +28,14 @@ pub struct Letter {
 }
 
 // A row, a place of the first sequence, and a column, a place of the second.
-#[derive(Drop)]
+#[derive(Clone, Copy)]
 pub struct Cell {
     pub row: u32,
     pub column: u32,
 }
 
 // A match with the weight of its heaviest chain and its start.
-#[derive(Drop)]
+#[derive(Clone, Copy)]
 pub struct Record {
     pub cell: Cell,
     pub weight: u32,

@@ -1,4 +1,6 @@
 // The stopped sweep once the matches of its strand are known: tallies, checks 7 and 19, and the run of a row. No letters here.
+#![tactic(auto)]
+
 ghost use Rattle.std.specs.Prelude.{◌≡◌, [], ◌-◌, ◌*◌, ◌^◌, ◌≤◌, ◌<◌, length};
 ghost use Rattle.matches.specs.Walks.{walked, walked_need};
 ghost use Rattle.rules.specs.Answers.{left};

@@ -1,5 +1,7 @@
 // The two strands of a job: their tallies together, and their entries one after the other. Both are swept alike; only reverse entries are turned back.
 // Each strand's matches come as walks, and a strand that is not asked for has no rows.
+#![tactic(auto)]
+
 ghost use Rattle.std.specs.Prelude.{◌≡◌, ◌+◌, ◌*◌, ◌^◌, ◌<◌, ◌≤◌, length};
 ghost use Rattle.matches.specs.Walks.{walked, walked_need, WalkSafe};
 ghost use Rattle.rules.specs.Listing.{entry_numbers};

@@ -1,4 +1,6 @@
 // The sweep, row by row: every row below i - b is released first, and then row i is stored. It knows rows, columns and numbers, never letters.
+#![tactic(auto)]
+
 ghost use Rattle.std.specs.Prelude.{◌≡◌, ◌-◌, ◌<◌, ◌≤◌, length};
 ghost use Rattle.matches.specs.Walks.{walked_to, walked_need};
 ghost use Rattle.predecessors.specs.Numbers.{slot_of};

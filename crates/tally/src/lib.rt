@@ -1,5 +1,7 @@
 // Two tallies of a job, counted from its matches before any record is made: the number of matches, and the most in a run of rows.
 // Matches come as walks: row p + 1 begins in column firsts[p], and after column j comes column nexts[j - 1]; 0 ends a row.
+#![tactic(auto)]
+
 ghost use Rattle.std.specs.Prelude.{◌≡◌, ◌+◌, ◌-◌, ◌≤◌, ◌<◌, length};
 ghost use Rattle.tally.specs.Tallies.{counts_of};
 ghost use Rattle.matches.specs.Walks.{row_from, walked_to, walked, NextsSafe, WalkSafe};

@@ -1,4 +1,6 @@
 // How often a k-mer occurs, counted by its owner and no further than just past the cap a; and the rows of a k-mer above a set to 0.
+#![tactic(auto)]
+
 ghost use Rattle.std.specs.Prelude.{◌≡◌, true, false, cond, min, ◌+◌, ◌≤◌, eqb, length};
 ghost use Rattle.totals.specs.Steps.{Upto, count_on, Tallied, Struck, Capped, NonePasses, OnePasses};
 

@@ -1,5 +1,7 @@
 // An index of the second sequence made one of the same codes read from the last place to the first, which is what the reverse strand asks for. Its keys
 // stay as they are: codes keep their order, and only the places of one code are turned round.
+#![tactic(auto)]
+
 ghost use Rattle.std.specs.Prelude.{◌≡◌, ◌++◌, reverse, ◌≤◌, ◌<◌, length, drop};
 ghost use Rattle.requests.specs.Index.{kmer_places};
 ghost use Rattle.index.specs.Keys.{Indexed};

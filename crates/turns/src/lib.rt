@@ -1,4 +1,6 @@
 // One line of the program's input, in its turn: what is wrong with it, and what a good one adds to what the lines before it have said.
+#![tactic(auto)]
+
 ghost use Rattle.std.specs.Prelude.{◌≡◌, ◌≤◌, length};
 ghost use Rattle.readers.specs.Readers.{strand_in};
 ghost use Rattle.turns.specs.Turns.{in_turn, frame_number};

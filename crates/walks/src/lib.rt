@@ -1,5 +1,7 @@
 // From the codes of the first sequence and the letters of the second, as they are read, to the matches of each strand, as walks over columns: for each row the first column
 // it meets, for each column the next one with the same k-mer. Local arrays hold letters and codes, no records.
+#![tactic(auto)]
+
 ghost use Rattle.std.specs.Prelude.{◌≡◌, length};
 ghost use Rattle.rules.specs.Letters.{as_read};
 ghost use Rattle.rules.specs.Strands.{on_strand};

@@ -1,4 +1,6 @@
 // A window over the counts of columns: what columns j - b to j count together. The window that was summed last is kept with its sum, and moved.
+#![tactic(auto)]
+
 ghost use Rattle.std.specs.Prelude.{◌≡◌, ◌+◌, ◌-◌, ◌%◌, ◌^◌, ◌≤◌, if◌then◌else◌};
 ghost use Rattle.windows.specs.Windows.{sum_from, window_sum, in_window, WindowHolds};
 

@@ -1,4 +1,6 @@
 // A writer for each kind of frame.
+#![tactic(auto)]
+
 ghost use Rattle.std.specs.Prelude.{◌≡◌, true, ◌&&◌, leb, length};
 ghost use Rattle.lines.specs.Writing.{line_of, written, leaves};
 ghost use Rattle.payloads.specs.Pieces.{code_bytes, codes_fit};
