@@ -119,7 +119,7 @@ module _ (c : Settings) (i k : ℕ) (all : List Record) (cells : List Cell) (roo
       let e = a.machine.columns.column q (omega arith) in
       let r = a.rows s (omega arith) in
       let n = a.machine.kept t from here in
-      any_has (left_extension c.b x.cell) cells (nth all s).cell (a.matches s (omega arith))
+      any_has (left_extension c.b x.cell) (nth all s).cell cells (a.matches s (omega arith))
       (after_extends c.b x.cell (nth all s).cell (a.sorted t s (omega arith) (omega arith)) (omega arith) (omega arith) (omega arith))
 
   pub closed_now : not (some_from (later_in latest t) x.cell.column (c.b + 1)) ≡ closed c.b cells x.cell

@@ -64,7 +64,7 @@ module _ (b : ℕ) (c : Cell) (ws : List Record) where
 
   -- the best of all is what the rule picks
   pub best_is : Single ws → (o : Option Record) → Best o → o ≡ pick b c none ws
-  best_is one o h = go o (pick b c none ws) h.from h.all picked (λ x n. pick_first b c ws none x n.here (facts_extend b x.cell c n.left))
+  best_is one o h = go o (pick b c none ws) h.from h.all picked (λ x n. pick_first b c x ws none n.here (facts_extend b x.cell c n.left))
     where
       picked : Sure Near (pick b c none ws)
       picked = pick_sure b c Near ws none tt near

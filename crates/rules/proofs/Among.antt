@@ -35,7 +35,7 @@ module _ (cells : List Cell) where
 
   pub among_has : (y : Cell) → Memᴰ y cells → T (among y)
   unfolding among same_cell
-  among_has y m = any_has (same_cell y) cells y m (simp (same_cell, tests) (refl, refl))
+  among_has y m = any_has (same_cell y) y cells m (simp (same_cell, tests) (refl, refl))
 
   -- each record has the heaviest weight of any chain of these, reached from its start
   pub records_right : (b : ℕ) → Ordered cells → (x : Record) → Memᴰ x (records_from b [] cells) → Right b among x

@@ -160,7 +160,7 @@ module _ (c : Settings) (s t : List ℕ) where
   pub W_bound : work_need c s t ≤ (c.b + 1) * (c.a - 1)
   unfolding work_need largest_run matches in_run
   W_bound =
-      largest_to_le _ _ (places c.k s) (λ i.
+      largest_to_le (λ i. count (in_run c.b i) (matches c s t)) ((c.b + 1) * (c.a - 1)) (places c.k s) (λ i.
       omega (
         arith,
         box_most (is_match c s t) (places c.k t) (in_run c.b i) (c.a - 1) c.b i

@@ -193,10 +193,10 @@ unfolding largest_of
 largest_of_le f m [] h = zero-le
 largest_of_le f m (x ∷ xs) h = let a = largest_of_le f m xs h in let b = h x in omega arith
 
-pub largest_of_ge : {A : Type 0} (f : A → ℕ) (xs : List A) (x : A) → Memᴰ x xs → f x ≤ largest_of f xs
+pub largest_of_ge : {A : Type 0} (f : A → ℕ) (x : A) (xs : List A) → Memᴰ x xs → f x ≤ largest_of f xs
 unfolding largest_of
-largest_of_ge {A} f xs x (Memᴰ.head {x = y} {xs = ys} e) = subst (λ (z : A). f z ≤ max (largest_of f ys) (f y)) (sym e) (omega arith)
-largest_of_ge f xs x (Memᴰ.tail {x = y} {xs = ys} m) = let a = largest_of_ge f ys x m in omega arith
+largest_of_ge {A} f x xs (Memᴰ.head {x = y} {xs = ys} e) = subst (λ (z : A). f z ≤ max (largest_of f ys) (f y)) (sym e) (omega arith)
+largest_of_ge f x xs (Memᴰ.tail {x = y} {xs = ys} m) = let a = largest_of_ge f x ys m in omega arith
 
 pub count_to_same : (f g : ℕ → Bool) (n : ℕ) → ((i : ℕ) → f i ≡ g i) → count_to f n ≡ count_to g n
 unfolding count_to

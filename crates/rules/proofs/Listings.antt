@@ -35,17 +35,17 @@ keep_in {A} f (y ∷ ys) x m =
     go t (inl e) ih = (Memᴰ.head e, subst⁻¹ (λ (z : A). T (f z)) e t)
     go t (inr n) ih = let h = ih n in (Memᴰ.tail h.0, h.1)
 
-pub keep_has : {A : Type 0} (f : A → Bool) (xs : List A) (x : A) → Memᴰ x xs → T (f x) → Memᴰ x (keep f xs)
+pub keep_has : {A : Type 0} (f : A → Bool) (x : A) (xs : List A) → Memᴰ x xs → T (f x) → Memᴰ x (keep f xs)
 unfolding keep
-keep_has {A} f xs x (Memᴰ.head {x = y} {xs = ys} e) t =
+keep_has {A} f x xs (Memᴰ.head {x = y} {xs = ys} e) t =
     by_test (λ (l : List A). Memᴰ x l) (f y) (y ∷ keep f ys) (keep f ys) (λ _. Memᴰ.head e) (λ n. absurd (n (subst (λ (z : A). T (f z)) e t)))
-keep_has {A} f xs x (Memᴰ.tail {x = y} {xs = ys} m) t =
-    by_test (λ (l : List A). Memᴰ x l) (f y) (y ∷ keep f ys) (keep f ys) (λ _. Memᴰ.tail (keep_has f ys x m t)) (λ _. keep_has f ys x m t)
+keep_has {A} f x xs (Memᴰ.tail {x = y} {xs = ys} m) t =
+    by_test (λ (l : List A). Memᴰ x l) (f y) (y ∷ keep f ys) (keep f ys) (λ _. Memᴰ.tail (keep_has f x ys m t)) (λ _. keep_has f x ys m t)
 
-pub any_has : {A : Type 0} (f : A → Bool) (xs : List A) (x : A) → Memᴰ x xs → T (f x) → T (any_of f xs)
+pub any_has : {A : Type 0} (f : A → Bool) (x : A) (xs : List A) → Memᴰ x xs → T (f x) → T (any_of f xs)
 unfolding any_of
-any_has {A} f xs x (Memᴰ.head {x = y} {xs = ys} e) t = simp tests (λ n. absurd (n (subst (λ (z : A). T (f z)) e t)))
-any_has f xs x (Memᴰ.tail {x = y} {xs = ys} m) t = simp tests (λ _. any_has f ys x m t)
+any_has {A} f x xs (Memᴰ.head {x = y} {xs = ys} e) t = simp tests (λ n. absurd (n (subst (λ (z : A). T (f z)) e t)))
+any_has f x xs (Memᴰ.tail {x = y} {xs = ys} m) t = simp tests (λ _. any_has f x ys m t)
 
 pub any_some : {A : Type 0} (f : A → Bool) (xs : List A) → T (any_of f xs) → (x : A) × Memᴰ x xs × T (f x)
 unfolding any_of
@@ -91,7 +91,7 @@ module _ (c : Settings) (s t : List ℕ) where
       forth : T (not (any_of (left_extension c.b y) (matches c s t))) → Closed c.b (is_match c s t) y
       forth u =
           let none : ¬ T (any_of (left_extension c.b y) (matches c s t)) = simp tests at u in
-          record { no_match = λ z h e. none (any_has (left_extension c.b y) (matches c s t) z (match_has c s t z h) e) }
+          record { no_match = λ z h e. none (any_has (left_extension c.b y) z (matches c s t) (match_has c s t z h) e) }
 
       back : Closed c.b (is_match c s t) y → T (not (any_of (left_extension c.b y) (matches c s t)))
       back h =
@@ -140,7 +140,7 @@ module _ (c : Settings) (s t : List ℕ) where
   pub listing_has : (y p : Cell) (w : ℕ) → Listed c s t y p w → Memᴰ (record { cell = y; weight = w; start = p }) (listing c s t)
   unfolding listing
   listing_has y p w h =
-      keep_has (is_listed c (matches c s t)) (records c s t) (record { cell = y; weight = w; start = p })
+      keep_has (is_listed c (matches c s t)) (record { cell = y; weight = w; start = p }) (records c s t)
       (record_is y p w h.is_match_lem h.weight h.start)
       ((is_listed_lem (record { cell = y; weight = w; start = p })).1 (h.is_closed, h.first_span_lem, h.second_span_lem))
 
@@ -169,7 +169,7 @@ module _ (c : Settings) (s t : List ℕ) where
     pub held_has : (y p : Cell) (w : ℕ) → Held c s t r y p w → Memᴰ (record { cell = y; weight = w; start = p }) (held c s t r)
     unfolding held in_run
     held_has y p w h =
-        keep_has (λ (z : Record). in_run c.b r z.cell) (records c s t) (record { cell = y; weight = w; start = p })
+        keep_has (λ (z : Record). in_run c.b r z.cell) (record { cell = y; weight = w; start = p }) (records c s t)
         (record_is y p w h.is_match_lem h.weight h.start) (simp (in_run, tests) (h.from, h.to))
 
     pub held_ordered : Ordered (map (λ (x : Record). x.cell) (held c s t r))

@@ -83,7 +83,7 @@ closed_earlier_lem : (b : ℕ) (all : List Cell) (c : Cell) → T (closed b all 
 unfolding closed closed_earlier
 closed_earlier_lem b all c t =
     let none : ¬ T (any_of (left_extension b c) all) = simp tests at t in
-    simp tests (λ u. let (z, m, e) = any_some (beyond b c) all u in none (any_has (left_extension b c) all z m (beyond_extends b c z e)))
+    simp tests (λ u. let (z, m, e) = any_some (beyond b c) all u in none (any_has (left_extension b c) z all m (beyond_extends b c z e)))
 
 module _ (c : Settings) (s t : List ℕ) where
   -- so the listing is what is left of the earlier one

@@ -137,7 +137,7 @@ module _ (b : ℕ) (hit : Cell → Bool) (recs : List Record) (right : (x : Reco
     heaviest = right_heaviest (right x m);
     first = λ y v h k g.
         let (z, n, q) = found y h in
-        let u : ¬ T (beats z x) = subst (Under z) e (pick_first b c recs none z n (subst⁻¹ (λ (w : Cell). T (left_extension b w c)) q k)) in
+        let u : ¬ T (beats z x) = subst (Under z) e (pick_first b c z recs none n (subst⁻¹ (λ (w : Cell). T (left_extension b w c)) q k)) in
         let same : z.weight ≡ v = heaviest_one (subst (λ (w : Cell). Heaviest b hit w z.weight) q (right_heaviest (right z n))) g in
         subst (λ (w : Cell). Preferred x.cell x.weight w v) q
         (subst (λ (w : ℕ). Preferred x.cell x.weight z.cell w) same (not_before x z u));
@@ -162,7 +162,7 @@ module _ (b : ℕ) (hit : Cell → Bool) (recs : List Record) (right : (x : Reco
       go ih none e =
           subst⁻¹ (Start b hit c) (ap (λ (w : Record). w.start) (is none e))
           (itself (λ y h t. let (z, k, q) = found y h in
-          subst (Under z) e (pick_first b c recs none z k (subst⁻¹ (λ (w : Cell). T (left_extension b w c)) q t))))
+          subst (Under z) e (pick_first b c z recs none k (subst⁻¹ (λ (w : Cell). T (left_extension b w c)) q t))))
       go ih (some y) e =
           let p : P y = subst (Sure P) e (pick_sure b c P recs none tt (λ z k t. (k, t))) in
           let w : x.weight ≡ suc y.weight = ap (λ (r : Record). r.weight) (is (some y) e) in

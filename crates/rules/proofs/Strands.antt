@@ -166,7 +166,7 @@ module _ (c : Settings) (s t : List ℕ) where
   -- no strand needs more room than the larger need, nor does that pass its bound
   pub need_of_each : (strand : ℕ) → Memᴰ strand (strands c) → work_need c s (on_strand strand t) ≤ larger_need c s t
   unfolding larger_need
-  need_of_each strand m = largest_of_ge (λ r. work_need c s (on_strand r t)) (strands c) strand m
+  need_of_each strand m = largest_of_ge (λ r. work_need c s (on_strand r t)) strand (strands c) m
 
   pub larger_bound : larger_need c s t ≤ (c.b + 1) * (c.a - 1)
   unfolding larger_need

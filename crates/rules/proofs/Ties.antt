@@ -89,13 +89,13 @@ module _ (b : ℕ) (c : Cell) where
       pick_old xs (cond (left_extension b x.cell c) (better o x) o) z
       (by_test (Under z) (left_extension b x.cell c) (better o x) o (λ _. better_old o x z u) (λ _. u))
 
-  pub pick_first : (xs : List Record) (o : Option Record) (z : Record) → Memᴰ z xs → T (left_extension b z.cell c) → Under z (pick b c o xs)
+  pub pick_first : (z : Record) (xs : List Record) (o : Option Record) → Memᴰ z xs → T (left_extension b z.cell c) → Under z (pick b c o xs)
   unfolding pick
-  pick_first xs o z (Memᴰ.head {x = x} {xs = ys} e) t =
+  pick_first z xs o (Memᴰ.head {x = x} {xs = ys} e) t =
       pick_old ys (cond (left_extension b x.cell c) (better o x) o) z
       (by_test (Under z) (left_extension b x.cell c) (better o x) o (λ _. subst⁻¹ (λ (w : Record). Under w (better o x)) e (better_new o x))
       (λ f. absurd (f (subst (λ (w : Record). T (left_extension b w.cell c)) e t))))
-  pick_first xs o z (Memᴰ.tail {x = x} {xs = ys} m) t = pick_first ys (cond (left_extension b x.cell c) (better o x) o) z m t
+  pick_first z xs o (Memᴰ.tail {x = x} {xs = ys} m) t = pick_first z ys (cond (left_extension b x.cell c) (better o x) o) m t
 
 -- the test's value from the facts
 pub beats_true : (x y : Record) → Beats x y → beats x y ≡ true

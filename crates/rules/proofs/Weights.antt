@@ -73,15 +73,15 @@ module _ (b : ℕ) (c : Cell) where
       (by_test (λ (r : Option Record). heavy o ≤ heavy r) (left_extension b x.cell c) (better o x) o (λ _. (better_heavy o x).0) (λ _. le_refl _))
       (pick_keeps xs (cond (left_extension b x.cell c) (better o x) o))
 
-  pick_heavy : (xs : List Record) (o : Option Record) (x : Record) → Memᴰ x xs → T (left_extension b x.cell c) → x.weight ≤ heavy (pick b c o xs)
+  pick_heavy : (x : Record) (xs : List Record) (o : Option Record) → Memᴰ x xs → T (left_extension b x.cell c) → x.weight ≤ heavy (pick b c o xs)
   unfolding pick
-  pick_heavy xs o x (Memᴰ.head {x = y} {xs = ys} e) t =
+  pick_heavy x xs o (Memᴰ.head {x = y} {xs = ys} e) t =
       le_trans
       (by_test (λ (r : Option Record). x.weight ≤ heavy r) (left_extension b y.cell c) (better o y) o
       (λ _. le_trans (le_of_eq (ap (λ (z : Record). z.weight) e)) (better_heavy o y).1)
       (λ f. absurd (f (subst (λ (z : Record). T (left_extension b z.cell c)) e t))))
       (pick_keeps ys (cond (left_extension b y.cell c) (better o y) o))
-  pick_heavy xs o x (Memᴰ.tail {x = y} {xs = ys} m) t = pick_heavy ys (cond (left_extension b y.cell c) (better o y) o) x m t
+  pick_heavy x xs o (Memᴰ.tail {x = y} {xs = ys} m) t = pick_heavy x ys (cond (left_extension b y.cell c) (better o y) o) m t
 
 -- ---- the record of the next match
 
@@ -143,7 +143,7 @@ module _ (b : ℕ) (hit : Cell → Bool) where
   record_greatest xs c r f p n (more {x = y} {n = k} ch e h) =
       let (z, m, q) = f y (chain_hit ch) e in
       suc-le-suc (le_trans ((r z m).greatest p k (subst⁻¹ (λ (w : Cell). Chain b hit p w k) q ch))
-      (pick_heavy b c xs none z m (subst⁻¹ (λ (w : Cell). T (left_extension b w c)) q e)))
+      (pick_heavy b c z xs none m (subst⁻¹ (λ (w : Cell). T (left_extension b w c)) q e)))
 
   record_right : (xs : List Record) (c : Cell) → T (hit c) → ((x : Record) → Memᴰ x xs → Right b hit x) → Holds xs c
       → Right b hit (record_of b xs c)
