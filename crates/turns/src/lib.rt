@@ -11,7 +11,7 @@ use pieces::Taken;
 use rules::Settings;
 
 // What the lines so far have said: the number of what is wrong with the last, whose turn it is, the settings and how many letters there are.
-#[derive(Drop)]
+#[derive(Clone, Copy)]
 pub struct State {
     pub number: u64,
     pub turn: u64,
