@@ -15,9 +15,9 @@ use Rattle.rules.proofs.ListLaws.{mem_at}
 use Rattle.requests.proofs.Index.{index_is, index_length, same_ranks, index_one, steps_order, order_at}
 
 -- what stands in a list stands at a place of it
-pub at_mem : (xs : List ℕ) (x : ℕ) → Memᴰ x xs → (q : ℕ) × (q < length xs) × (get_or xs q 0 ≡ x)
-at_mem xs x (Memᴰ.head {x = y} {xs = ys} e) = (0, omega arith, sym e)
-at_mem xs x (Memᴰ.tail {x = y} {xs = ys} m) = let (q, l, e) = at_mem ys x m in (suc q, omega (arith, l), e)
+pub at_mem : (x : ℕ) (xs : List ℕ) → Memᴰ x xs → (q : ℕ) × (q < length xs) × (get_or xs q 0 ≡ x)
+at_mem x xs (Memᴰ.head {x = y} {xs = ys} e) = (0, omega arith, sym e)
+at_mem x xs (Memᴰ.tail {x = y} {xs = ys} m) = let (q, l, e) = at_mem x ys m in (suc q, omega (arith, l), e)
 
 -- ---- ys begins with xs
 
@@ -93,7 +93,7 @@ module _ (codes index : List ℕ) where
 
     front_kmer : (z : ℕ) → Memᴰ z (take n index) → 0 < code_at codes z
     front_kmer z m =
-        let (q, l, e) = at_mem (take n index) z m in
+        let (q, l, e) = at_mem z (take n index) m in
         let w : q < n = omega (arith, l, front_long) in
         subst (λ (p : ℕ). 0 < code_at codes p) (sym (front_at q w) ∙ e) (r.kmer q w)
 
@@ -143,7 +143,7 @@ module _ (codes index : List ℕ) where
   -- what a slice that begins with the index tells of any place: where it stands
   pub indexed_has : T (begins_with (index_of_codes codes) index) → (p : ℕ) → 0 < code_at codes p → (q : ℕ) × (q < kmer_places codes) × (get_or index q 0 ≡ p)
   indexed_has t p h =
-      let (q, l, e) = at_mem (index_of_codes codes) p (((index_is codes).exact p).1 h) in
+      let (q, l, e) = at_mem p (index_of_codes codes) (((index_is codes).exact p).1 h) in
       let w : q < kmer_places codes = omega (arith, l, index_length codes) in
       (q, w, sym (indexed_at t q w) ∙ e)
 
