@@ -4,7 +4,6 @@ use mathlib.Core.Bool.{Bool, true, false}
 use mathlib.Core.List.{List}
 use Prim.Native.Nat.{ℕ}
 use native.Mathlib.Omega.{arith}
-use lib.ListN.{length}
 use lib.Seq.{ext_get_or}
 use Rattle.order.proofs.Cases.{one_list}
 use Rattle.totals.specs.Steps.{Tallied, Rewritten, Struck, Capped, NonePasses, OnePasses}
