@@ -106,6 +106,10 @@ gathering_end bytes at width x i h r =
     let e : i ≡ width = omega (arith, r.within) in
     (r.is ∙ ap (number_at bytes at) e, subst (λ (n : ℕ). x < 256 ^ n) e r.small)
 
+number_more : (bytes : List ℕ) (at n a b x : ℕ) → number_at bytes at n ≡ a → get_or bytes (at + n) 0 ≡ b → a * 256 + b ≡ x → number_at bytes at (suc n) ≡ x
+unfolding number_at
+number_more bytes at n a b x h l e = omega (arith, h, l, e)
+
 -- the bytes that a number was put in, behind others and before others, give it back
 pub number_back : (before after : List ℕ) (n x : ℕ) → x < 256 ^ n → number_at (before ++ (number_bytes n x ++ after)) (length before) n ≡ x
 unfolding number_bytes number_at
@@ -119,7 +123,7 @@ number_back before after (suc n) x h =
     let g : get_or (before ++ (bs ++ (x % 256 ∷ after))) (length before + n) 0 ≡ x % 256 =
     rw l (get_or-append-add before (bs ++ (x % 256 ∷ after)) (length bs + 0) 0 ∙ get_or-append-add bs (x % 256 ∷ after) 0 0) in
     let ih = number_back before (x % 256 ∷ after) n (x / 256) s in
-    rw e (omega (arith, ih, g))
+    ap (λ (l : List ℕ). number_at l (length before) (suc n)) e ∙ number_more _ _ n _ _ x ih g (omega arith)
 
 -- a number stands where its bytes do
 pub number_same : (xs ys : List ℕ) (at n : ℕ) → ((i : ℕ) → i < at + n → get_or xs i 0 ≡ get_or ys i 0) → number_at xs at n ≡ number_at ys at n
