@@ -1,0 +1,10 @@
+-- The numbers are stored one behind the other. Assumes nothing.
+use mathlib.Core.Path.{◌∙◌}
+use Rattle.kinds.specs.Kinds.{job_numbers}
+use Rattle.payloads.specs.Numbers.{number_bytes}
+use Rattle.kinds.proofs.job_bytes.Goals as goal
+
+pub returns : goal.returns
+unfolding job_numbers number_bytes
+returns c =
+    c.put_number-5.ensures ∙ rw c.put_number-4.ensures (rw c.put_number-3.ensures (rw c.put_number-2.ensures (rw c.put_number.ensures)))
