@@ -1,6 +1,4 @@
-use native.Mathlib.Omega.{arith}
-use borrow.Author.Rules.{rules}
-use Rattle.hashed.proofs.Tables.{Searching, search_start, search_falls, search_next, search_found, search_given_up, search_none}
+use Rattle.hashed.proofs.Tables.{search_found, search_none}
 use Rattle.hashed.proofs.find.Goals as goal
 
 pub returns-then-second-p : goal.returns-then-second-p

@@ -1,6 +1,4 @@
 -- No k-mer has no owner; every other code is found by as many looks as there are columns. Assumes nothing.
-use native.Mathlib.Omega.{arith}
-use borrow.Author.Rules.{rules}
 use Rattle.ownership.proofs.Owns.{own_none}
 use Rattle.hashed.proofs.Tables.{found_owner}
 use Rattle.hashed.proofs.owner_by_table.Goals as goal

@@ -1,6 +1,5 @@
 -- The new column is the last of its hash, and its link is what was the last before it. Assumes nothing.
 use native.Mathlib.Omega.{arith}
-use borrow.Author.Rules.{rules}
 use Rattle.hashed.proofs.Tables.{table_put}
 use Rattle.hashed.proofs.put.Goals as goal
 
