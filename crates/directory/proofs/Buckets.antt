@@ -51,10 +51,10 @@ module _ {low n q : ℕ} {keys ends₀ ends : List ℕ} (w : Filling low keys en
 
   pub filling_next : q < n → Filling low keys ends₀ (set ends b (q + 1)) n (q + 1)
   unfolding ends_to
-  filling_next l = record { upto = omega arith; wide = length-set ends b (q + 1) ∙ w.wide; ends_are = rw (add-one q, w.ends-are, e) }
+  filling_next l = record { upto = omega arith; wide = length-set ends b (q + 1) ∙ w.wide; ends_are = rw (add-one q, w.ends_are, e) }
 
 pub filling_end : {low n q : ℕ} {keys ends₀ ends : List ℕ} → Filling low keys ends₀ ends n q → n ≤ q → ends ≡ ends_to low keys ends₀ n
-filling_end {low} {n} {q} {keys} {ends₀} w h = let e : q ≡ n = omega (arith, w.upto) in w.ends-are ∙ ap (ends_to low keys ends₀) e
+filling_end {low} {n} {q} {keys} {ends₀} w h = let e : q ≡ n = omega (arith, w.upto) in w.ends_are ∙ ap (ends_to low keys ends₀) e
 
 -- filled from an array as it is made
 pub directory_ready : {low n m : ℕ} {keys ends : List ℕ} → n ≡ m → ends ≡ ends_to low keys (replicate 65536 0) n → Bucketed low keys ends m

@@ -1,0 +1,10 @@
+-- Keys rise, so one look in the middle settles half of what is left. Assumes nothing.
+use Prim.Native.Nat.{◌-◌}
+use Rattle.directory.specs.Directory.{Lower}
+use Rattle.directory.proofs.lower.Given as goal
+
+abbrev pub invariant-loop-lo : goal.invariant-loop-lo
+invariant-loop-lo l = Lower l.keys l.begin l.end l.c l.lo l.hi
+
+abbrev pub decreases-loop-lo : goal.decreases-loop-lo
+decreases-loop-lo l = l.hi - l.lo
