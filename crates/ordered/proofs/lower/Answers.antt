@@ -1,8 +1,5 @@
 use Prim.Native.Nat.{◌+◌, ◌-◌, ◌/◌}
-use native.Mathlib.Omega.{arith}
-use borrow.Author.Rules.{rules}
-use Rattle.ordered.specs.Lower.{Lower}
-use Rattle.ordered.proofs.Lowers.{Middle, middle, lower_start, lower_up, lower_down, lower_end}
+use Rattle.ordered.proofs.Lowers.{Middle, middle, lower_up, lower_down}
 use Rattle.ordered.proofs.lower.Goals as goal
 
 pub loop-lo-preserved-then-d-c : goal.loop-lo-preserved-then-d-c

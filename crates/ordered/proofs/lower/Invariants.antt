@@ -1,9 +1,6 @@
 -- The order is by code, so one look in the middle settles half of what is left. Assumes nothing.
-use Prim.Native.Nat.{◌+◌, ◌-◌, ◌/◌}
-use native.Mathlib.Omega.{arith}
-use borrow.Author.Rules.{rules}
+use Prim.Native.Nat.{◌-◌}
 use Rattle.ordered.specs.Lower.{Lower}
-use Rattle.ordered.proofs.Lowers.{Middle, middle, lower_start, lower_up, lower_down, lower_end}
 use Rattle.ordered.proofs.lower.Given as goal
 
 abbrev pub invariant-loop-lo : goal.invariant-loop-lo

@@ -1,7 +1,5 @@
 -- The first of the ordered places whose code is not below c has c, and is then its first place; or no place has it. Assumes nothing.
 use mathlib.Core.Path.{sym, ◌∙◌}
-use native.Mathlib.Omega.{arith}
-use borrow.Author.Rules.{rules}
 use Rattle.ownership.proofs.Owns.{own_none}
 use Rattle.ordered.proofs.Lowers.{owner_past, owner_found, owner_other}
 use Rattle.ordered.proofs.owner_by_order.Goals as goal

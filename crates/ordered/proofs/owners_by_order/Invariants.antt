@@ -1,10 +1,7 @@
 -- Each turn writes one owner and touches no other number. Assumes nothing.
 use Prim.Native.Nat.{◌≤◌, ◌-◌}
-use native.Mathlib.Omega.{arith}
 use lib.ListN.{length}
-use borrow.Author.Rules.{rules}
 use Rattle.ownership.specs.Owners.{Owned}
-use Rattle.ownership.proofs.Owns.{owned_start, owned_next, owned_end}
 use Rattle.ordered.proofs.owners_by_order.Given as goal
 
 abbrev pub invariant-loop-i : goal.invariant-loop-i
