@@ -89,10 +89,10 @@ module _ {second index keys : List ℕ} (x : Indexed second index keys) where
     own_key : {r : ℕ} → r ≡ cond (eqb (get_or keys q 0) last) owner (get_or index q 0) → r ≡ own_of second (get_or keys q 0)
     own_key e =
         ⊎_elim
-        (λ (f : get_or keys q 0 ≡ last). e ∙ rw (eq-eqb (get_or keys q 0) last f) (w.owner-is ∙ ap (own_of second) (sym f)))
+        (λ (f : get_or keys q 0 ≡ last). e ∙ rw (eq-eqb (get_or keys q 0) last f) (w.owner_is ∙ ap (own_of second) (sym f)))
         (λ (f : get_or keys q 0 ≡ last → ⊥).
         e ∙ rw (ne_eqb (get_or keys q 0) last f)
-        (first_column q l (let h = not_below q l in let g : code_at second (get_or (0 ∷ index) q 0) ≡ code_at second (get_or index q 0) → ⊥ = λ d. f (x.key q l ∙ sym d ∙ sym w.last-is) in omega arith)))
+        (first_column q l (let h = not_below q l in let g : code_at second (get_or (0 ∷ index) q 0) ≡ code_at second (get_or index q 0) → ⊥ = λ d. f (x.key q l ∙ sym d ∙ sym w.last_is) in omega arith)))
         (eq_or_ne (get_or keys q 0) last)
 
     pub owning_next : {p r : ℕ} → get_or index q 0 ≡ suc p → p < length own → r ≡ cond (eqb (get_or keys q 0) last) owner (get_or index q 0)
