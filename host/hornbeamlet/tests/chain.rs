@@ -1,7 +1,8 @@
 //! Random jobs put to the program `chain` in frames: what it writes, read frame
 //! by frame, is what `compare` gives in the rooms that `chain` lends.
 //!
-//! Each job is a process of its own. Needs target/bin/chain; `tools/chain-command`
+//! Each job is a process of its own. Needs crates/chain/out/chain;
+//! `tools/chain-command`
 //! tells how it is run.
 
 #![forbid(unsafe_code)]
