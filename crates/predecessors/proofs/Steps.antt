@@ -63,9 +63,9 @@ module _ (room : List ℕ) (ring : Ring) (best s : ℕ) where
 pub mem_nth : (all : List Record) (g : ℕ) → g < length all → Memᴰ (nth all g) all
 mem_nth all g h = mem_at all g nothing h
 
-pub nth_mem : (all : List Record) (x : Record) → Memᴰ x all → (g : ℕ) × (g < length all) × (x ≡ nth all g)
-nth_mem all x (Memᴰ.head {x = y} {xs = ys} e) = (0, omega arith, e)
-nth_mem all x (Memᴰ.tail {x = y} {xs = ys} m) = let (g, h, e) = nth_mem ys x m in (suc g, omega arith, e)
+pub nth_mem : (x : Record) (all : List Record) → Memᴰ x all → (g : ℕ) × (g < length all) × (x ≡ nth all g)
+nth_mem x all (Memᴰ.head {x = y} {xs = ys} e) = (0, omega arith, e)
+nth_mem x all (Memᴰ.tail {x = y} {xs = ys} m) = let (g, h, e) = nth_mem x ys m in (suc g, omega arith, e)
 
 -- numbers go by row
 pub rows_sorted : (all : List Record) → Sorted all → (g h : ℕ) → g ≤ h → h < length all → (nth all g).cell.row ≤ (nth all h).cell.row
@@ -102,7 +102,7 @@ near_begins room latest ring tail near column from b j i all h r = go r.nearest
     go (no_near e f g) =
         rw (e, numbered_none room ring)
         (walk_none b (cell i j) all w column
-        (λ x n k. let (t, l, q) = nth_mem all x n.here in g t l (sym (ap (λ (y : Record). y.cell.row) q) ∙ k))
+        (λ x n k. let (t, l, q) = nth_mem x all n.here in g t l (sym (ap (λ (y : Record). y.cell.row) q) ∙ k))
         (λ x n k. (let l = w.from_one x n.here in omega arith)))
     go (has_near l m k e g) =
         let y = nth all (near - 1) in
@@ -111,7 +111,7 @@ near_begins room latest ring tail near column from b j i all h r = go r.nearest
         let t : tail ≤ near - 1 = held (near - 1) (omega arith) k in
         rw (numbered_some room ring near (λ z. omega arith), holds_record room (slot_of ring (near - 1)) y (r.stored (near - 1) t (omega arith)), ← e)
         (walk_near b (cell i j) all w y (is_near b (cell i j) all w y my (omega arith) (omega arith) (omega arith)) k
-        (λ x n d. let (t, l, q) = nth_mem all x n in
+        (λ x n d. let (t, l, q) = nth_mem x all n in
         let u = g t l (sym (ap (λ (y : Record). y.cell.row) q) ∙ d) in
         let v = ap (λ (y : Record). y.cell.column) q in
         omega arith))
@@ -125,7 +125,7 @@ far_begins : (room latest : List ℕ) (ring : Ring) (tail near column from b j i
     → Walk b (cell i j) all j (j - b - 1) (numbered room ring 0)
 far_begins room latest ring tail near column from b j i all h r =
     rw (numbered_none room ring)
-    (walk_none b (cell i j) all r.known (j - b - 1) (λ x n k. go r.nearest x n k (nth_mem all x n.here)) (λ x n k. (let e = n.left in omega arith)))
+    (walk_none b (cell i j) all r.known (j - b - 1) (λ x n k. go r.nearest x n k (nth_mem x all n.here)) (λ x n k. (let e = n.left in omega arith)))
   where
     go : Nearest i all near column → (x : Record) → Near b (cell i j) all x → x.cell.row ≡ i → ((g : ℕ) × (g < length all) × (x ≡ nth all g)) → ⊥
     go (no_near e f g) x n k (t, l, q) = g t l (sym (ap (λ (y : Record). y.cell.row) q) ∙ k)
@@ -191,7 +191,7 @@ module _ {room latest : List ℕ} {ring : Ring} {tail near column from b j : ℕ
           record {
             walk =
                 walk_skip b c all g.known q stop (numbered room ring best) p.walk (q - 1)
-                (λ x n k l. under le p.met x n (omega arith) (nth_mem all x n.here));
+                (λ x n k l. under le p.met x n (omega arith) (nth_mem x all n.here));
             met = met_down (q - 1) (omega arith) p.met;
             above = p.above;
           }
@@ -229,7 +229,7 @@ module _ {room latest : List ℕ} {ring : Ring} {tail near column from b j : ℕ
 
         x_top : (z : Record) → Memᴰ z all → z.cell.column ≡ q → z.cell.row ≤ x.cell.row
         x_top z m e =
-            let (k, l, p) = nth_mem all z m in
+            let (k, l, p) = nth_mem z all m in
             let pc = ap (λ (y : Record). y.cell.column) p in
             let pr = ap (λ (y : Record). y.cell.row) p in
             let new : k < get_or latest (nth all k).cell.column 0 = g.columns.newest k l in
@@ -247,7 +247,7 @@ module _ {room latest : List ℕ} {ring : Ring} {tail near column from b j : ℕ
             let k = x_column in
             best_is b (cell i j) all g.known.single (numbered room ring r)
             (walk_stop b (cell i j) all g.known (q - 1) stop (numbered room ring r) taken x x_near (omega arith)
-            (λ z m d. let (n, nl, p) = nth_mem all z m in
+            (λ z m d. let (n, nl, p) = nth_mem z all m in
             let pr = ap (λ (y : Record). y.cell.row) p in
             let u = g.late (s - 1) n (omega arith) s_in nl (omega arith) in omega arith))
 
