@@ -81,7 +81,7 @@ module _ (b : ℕ) (c : Cell) (ws : List Record) where
     weighs x n = w.heaviest x n.here
 
     extends : (x : Record) → Near x → LeftExtension b w.hit c x.cell
-    extends x n = record { is_match_lem = chain_hit (weighs x n).reached; extends = facts_extend b x.cell c n.left }
+    extends x n = record { is_a_match = chain_hit (weighs x n).reached; extends = facts_extend b x.cell c n.left }
 
     module _ (x y : Record) (o : Option Record) (nx : Near x) (ny : Near y) where
       -- x weighs less than y or is y: where y is not before what is picked, x is not

@@ -13,7 +13,7 @@ use Rattle.rules.specs.declared.Settings.{Settings}
 use Rattle.rules.specs.Lists.{count, count_to, sum_of}
 use Rattle.rules.specs.Places.{places, kmer_at, same_kmer, total}
 use Rattle.rules.specs.Matches.{Cell, cell, is_match, row_to, matches_to, matches}
-use Rattle.rules.specs.Chains.{left_extension, one}
+use Rattle.rules.specs.Chains.{left_extension}
 use Rattle.rules.specs.Rooms.{in_run, largest_run, pairs, work_need, link_total}
 use Rattle.rules.proofs.Tests.{tests, by_test, tested}
 use Rattle.rules.proofs.ListLaws.{empty, count_to_mono, count_to_hit, count_to_some, largest_to_le, count_append, count_length, count_none}

@@ -1,5 +1,5 @@
--- CR 3: of two left extensions of one match the farther weighs more, so that their rows never decide between them; what follows of columns, rows and
--- the predecessor. Of any gap bound and any matches. Assumes nothing.
+-- CR 3: of two left extensions of one match the farther weighs more (Heavier.antt), so that their rows never decide between them; what follows of
+-- columns, rows and the predecessor. Of any gap bound and any matches. Assumes nothing.
 use mathlib.Core.Path.{◌≡◌, refl, sym, ap, subst}
 use mathlib.Core.Logic.{◌⊎◌, inl, inr, ◌↔◌}
 use mathlib.Core.Bool.{Bool}
@@ -9,34 +9,16 @@ use native.Mathlib.Omega.{arith}
 use lib.Dec.{T}
 use Rattle.rules.specs.declared.Settings.{Settings}
 use Rattle.rules.specs.Matches.{Cell, cell, is_match}
-use Rattle.rules.specs.Chains.{more, Heaviest, Preferred, heavier, smaller_column, smaller_row, same_one, Predecessor, LeftExtension}
+use Rattle.rules.specs.Chains.{Heaviest, Preferred, heavier, smaller_column, smaller_row, same_one, Predecessor, LeftExtension}
 use Rattle.rules.specs.Chains.{AtOrBeyond, PreferredByColumn, weighs_more, lies_left, is_itself, PredecessorByColumn}
 use Rattle.rules.specs.Records.{Record}
 use Rattle.rules.specs.Rooms.{held, Held}
 use Rattle.rules.proofs.Tests.{Three, three, below, equal, above}
-use Rattle.rules.proofs.LeftExtensions.{Extends, extend_facts, facts_extend, same_cell_lem}
+use Rattle.rules.proofs.LeftExtensions.{facts_extend, same_cell_lem}
+use Rattle.rules.proofs.Heavier.{farther_heavier}
+use Rattle.rules.proofs.Abreast.{abreast}
 use Rattle.rules.proofs.Weighed.{weighed}
 use Rattle.rules.proofs.Listings.{held_in}
-
--- ---- the theorem that the rest is derived from
-
-module _ {b : ℕ} {hit : Cell → Bool} {c x y : Cell} (lx : LeftExtension b hit c x) (ly : LeftExtension b hit c y) where
-  -- both lie within b of c, so the nearer is a left extension of the farther: a chain to it goes on there
-  pub farther_heavier : ¬ (x ≡ y) → AtOrBeyond x y → {v w : ℕ} → Heaviest b hit x v → Heaviest b hit y w → v < w
-  farther_heavier two far {v} {w} hx hy =
-      let ex = extend_facts _ x c lx.extends in
-      let ey = extend_facts _ y c ly.extends in
-      let apart : ¬ (y.row + y.column ≤ x.row + x.column) = λ g. two (same_cell_lem (omega (arith, far)) (omega (arith, far))) in
-      let e : Extends b x y =
-      record {
-        row_le = omega (arith, far);
-        row_near = omega (arith, ex, ey);
-        column_le = omega (arith, far);
-        column_near = omega (arith, ex, ey);
-        moved = omega arith;
-      } in
-      let goes_on = hy.greatest hx.first (suc v) (more hx.reached (facts_extend b x y e) ly.is_match_lem) in
-      omega arith
 
 -- ---- two left extensions, each with its weight
 
@@ -59,14 +41,10 @@ module _ {b : ℕ} {hit : Cell → Bool} {c x y : Cell} (lx : LeftExtension b hi
   pub nearest_column : x.row ≡ y.row → x.column ≤ y.column → (v < w) ⊎ (x ≡ y)
   nearest_column e h = overtaken (record { rows = omega arith; columns = h })
 
-  -- of two that weigh the same neither lies at or beyond the other
-  abreast : v ≡ w → ¬ (x ≡ y) → ¬ AtOrBeyond x y
-  abreast e two far = let less = farther_heavier lx ly two far hx hy in omega arith
-
   -- and the one in the smaller column has the larger row
   pub larger_row : v ≡ w → x.column < y.column → y.row < x.row
   larger_row e h =
-      let lower : ¬ (x.row ≤ y.row) = λ g. abreast e (λ k. omega (arith, ap (λ (z : Cell). z.column) k)) (record { rows = g; columns = omega arith }) in
+      let lower : ¬ (x.row ≤ y.row) = λ g. abreast lx ly hx hy e (λ k. omega (arith, ap (λ (z : Cell). z.column) k)) (record { rows = g; columns = omega arith }) in
       omega arith
 
 -- ---- the second tie rule
@@ -96,7 +74,7 @@ preferred_by_column (is_itself e) = same_one (ap (λ (z : Cell). z.row) e) (ap (
 
 module _ {b : ℕ} {hit : Cell → Bool} {c x : Cell} where
   predecessor_left : Predecessor b hit c x → LeftExtension b hit c x
-  predecessor_left p = record { is_match_lem = p.is_match_lem; extends = p.is_left }
+  predecessor_left p = record { is_a_match = p.is_a_match; extends = p.is_left }
 
   -- without it the predecessor is the same
   pub row_left_out : Predecessor b hit c x ↔ PredecessorByColumn b hit c x
@@ -105,14 +83,14 @@ module _ {b : ℕ} {hit : Cell → Bool} {c x : Cell} where
       left = predecessor_left p;
       weight = p.weight;
       heaviest = p.heaviest;
-      first = λ y v ly hy. by_column (predecessor_left p) ly p.heaviest hy (p.first y v ly.is_match_lem ly.extends hy);
+      first = λ y v ly hy. by_column (predecessor_left p) ly p.heaviest hy (p.first y v ly.is_a_match ly.extends hy);
     },
     λ p. record {
-      is_match_lem = p.left.is_match_lem;
+      is_a_match = p.left.is_a_match;
       is_left = p.left.extends;
       weight = p.weight;
       heaviest = p.heaviest;
-      first = λ y v t e hy. preferred_by_column (p.first y v (record { is_match_lem = t; extends = e }) hy);
+      first = λ y v t e hy. preferred_by_column (p.first y v (record { is_a_match = t; extends = e }) hy);
     },
   )
 
@@ -122,8 +100,8 @@ module _ {b : ℕ} {hit : Cell → Bool} {c x y : Cell} (p : Predecessor b hit c
   -- a left extension at or before another in both sequences is never the predecessor
   pub not_overtaken : ¬ (x ≡ y) → ¬ AtOrBeyond x y
   not_overtaken two far =
-      let (w, hy) = weighed b hit y ly.is_match_lem in
-      lighter (farther_heavier (predecessor_left p) ly two far p.heaviest hy) (p.first y w ly.is_match_lem ly.extends hy)
+      let (w, hy) = weighed b hit y ly.is_a_match in
+      lighter (farther_heavier (predecessor_left p) ly two far p.heaviest hy) (p.first y w ly.is_a_match ly.extends hy)
     where
       lighter : {w : ℕ} → p.weight < w → Preferred x p.weight y w → ⊥
       lighter h (heavier g) = omega arith
@@ -159,7 +137,7 @@ module _ (c : Settings) (first second : List ℕ) (r : ℕ) (x y : Record) (mx :
           → LeftExtension c.b (is_match c first second) right z
       beside z t over near k some =
           record {
-            is_match_lem = t;
+            is_a_match = t;
             extends =
                 facts_extend c.b z right
                 (record { row_le = over; row_near = near; column_le = omega arith; column_near = omega arith; moved = omega arith });
@@ -168,7 +146,7 @@ module _ (c : Settings) (first second : List ℕ) (r : ℕ) (x y : Record) (mx :
       go : Three x.cell.row y.cell.row → (x.weight < y.weight) ⊎ (x.cell ≡ y.cell)
       go (below g) =
           let near : y.cell.row ≤ x.cell.row + c.b = omega (arith, hx.from, hy.to) in
-          latest_row (beside x.cell hx.is_match_lem h near e (omega arith)) (beside y.cell hy.is_match_lem (omega arith) (omega arith) refl (omega arith))
+          latest_row (beside x.cell hx.is_a_match h near e (omega arith)) (beside y.cell hy.is_a_match (omega arith) (omega arith) refl (omega arith))
           hx.weight hy.weight e h
       go (equal g) = inr (same_cell_lem g e)
       go (above g) = absurd (omega arith)

@@ -14,6 +14,8 @@ pub mod Bounds
 pub mod Listings
 pub mod Among
 pub mod Weighed
+pub mod Heavier
+pub mod Abreast
 pub mod Farther
 pub mod Maximal
 pub mod Strands

@@ -129,20 +129,20 @@ module _ (c : Settings) (s t : List ℕ) where
       let h = (is_listed_lem x).0 u in
       let w = weight_heaviest c s t x n in
       record {
-        is_match_lem = chain_hit w.reached;
+        is_a_match = chain_hit w.reached;
         is_closed = h.0;
         weight = w;
         start = start_right c s t x n;
-        first_span_lem = h.1;
-        second_span_lem = h.2;
+        first_enough = h.1;
+        second_enough = h.2;
       }
 
   pub listing_has : (y p : Cell) (w : ℕ) → Listed c s t y p w → Memᴰ (record { cell = y; weight = w; start = p }) (listing c s t)
   unfolding listing
   listing_has y p w h =
       keep_has (is_listed c (matches c s t)) (record { cell = y; weight = w; start = p }) (records c s t)
-      (record_is y p w h.is_match_lem h.weight h.start)
-      ((is_listed_lem (record { cell = y; weight = w; start = p })).1 (h.is_closed, h.first_span_lem, h.second_span_lem))
+      (record_is y p w h.is_a_match h.weight h.start)
+      ((is_listed_lem (record { cell = y; weight = w; start = p })).1 (h.is_closed, h.first_enough, h.second_enough))
 
   -- by end row, then end column, as numbers, and each once
   pub listing_ordered : Ordered (map (λ (x : Record). ends c.k x.cell) (listing c s t))
@@ -153,7 +153,7 @@ module _ (c : Settings) (s t : List ℕ) where
       (keep_ordered (is_listed c (matches c s t)) (records c s t) records_ordered)
     where
       inside : (x : Record) → Memᴰ x (listing c s t) → Inside (is_match c s t) (places c.k t) (places c.k s) x.cell
-      inside x m = match_inside c s t x.cell (listing_in x m).is_match_lem
+      inside x m = match_inside c s t x.cell (listing_in x m).is_a_match
 
   -- ---- the stopped room
 
@@ -164,13 +164,13 @@ module _ (c : Settings) (s t : List ℕ) where
         let (n, u) = keep_in (λ (z : Record). in_run c.b r z.cell) (records c s t) x m in
         let h = simp (in_run, tests) at u in
         let w = weight_heaviest c s t x n in
-        record { is_match_lem = chain_hit w.reached; from = h.0; to = h.1; weight = w; start = start_right c s t x n }
+        record { is_a_match = chain_hit w.reached; from = h.0; to = h.1; weight = w; start = start_right c s t x n }
 
     pub held_has : (y p : Cell) (w : ℕ) → Held c s t r y p w → Memᴰ (record { cell = y; weight = w; start = p }) (held c s t r)
     unfolding held in_run
     held_has y p w h =
         keep_has (λ (z : Record). in_run c.b r z.cell) (record { cell = y; weight = w; start = p }) (records c s t)
-        (record_is y p w h.is_match_lem h.weight h.start) (simp (in_run, tests) (h.from, h.to))
+        (record_is y p w h.is_a_match h.weight h.start) (simp (in_run, tests) (h.from, h.to))
 
     pub held_ordered : Ordered (map (λ (x : Record). x.cell) (held c s t r))
     unfolding held

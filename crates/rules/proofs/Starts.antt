@@ -131,7 +131,7 @@ module _ (b : ℕ) (hit : Cell → Bool) (recs : List Record) (right : (x : Reco
   -- what is picked for c is its predecessor
   picked_first : (c : Cell) (x : Record) → Memᴰ x recs → T (left_extension b x.cell c) → pick b c none recs ≡ some x → Predecessor b hit c x.cell
   picked_first c x m t e = record {
-    is_match_lem = chain_hit (right x m).reached;
+    is_a_match = chain_hit (right x m).reached;
     is_left = t;
     weight = x.weight;
     heaviest = right_heaviest (right x m);
@@ -177,7 +177,7 @@ module _ (b : ℕ) (hit : Cell → Bool) (recs : List Record) (right : (x : Reco
 
 pub predecessor_one : {b : ℕ} {hit : Cell → Bool} {c x y : Cell} → Predecessor b hit c x → Predecessor b hit c y → x ≡ y
 predecessor_one {x = x} {y = y} p q =
-    go (p.first y q.weight q.is_match_lem q.is_left q.heaviest) (q.first x p.weight p.is_match_lem p.is_left p.heaviest)
+    go (p.first y q.weight q.is_a_match q.is_left q.heaviest) (q.first x p.weight p.is_a_match p.is_left p.heaviest)
   where
     go : {v w : ℕ} → Preferred x v y w → Preferred y w x v → x ≡ y
     go (same_one er ec) k = same_cell_lem er ec
@@ -196,6 +196,6 @@ predecessor_one {x = x} {y = y} p q =
 
 pub start_one : {b : ℕ} {hit : Cell → Bool} {c p q : Cell} → Start b hit c p → Start b hit c q → p ≡ q
 start_one (itself n) (itself m) = refl
-start_one (itself n) (through {x = x} f t) = absurd (n x f.is_match_lem f.is_left)
-start_one (through {x = x} f t) (itself n) = absurd (n x f.is_match_lem f.is_left)
+start_one (itself n) (through {x = x} f t) = absurd (n x f.is_a_match f.is_left)
+start_one (through {x = x} f t) (itself n) = absurd (n x f.is_a_match f.is_left)
 start_one {b} {hit} {q = q} (through f s) (through g t) = start_one s (subst⁻¹ (λ (x : Cell). Start b hit x q) (predecessor_one f g) t)

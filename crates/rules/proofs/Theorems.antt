@@ -29,7 +29,8 @@ use Rattle.rules.proofs.Starts.{heaviest_one, predecessor_one, start_one}
 use Rattle.rules.proofs.Jobs.{match_in, match_has, record_cells, weight_heaviest, start_right, start_of_heaviest}
 use Rattle.rules.proofs.Listings.{listing_in, listing_has, listing_ordered, held_in, held_has, held_ordered}
 use Rattle.rules.proofs.Weighed.{weighed}
-use Rattle.rules.proofs.Farther.{farther_heavier, latest_row, nearest_column, larger_row, columns_apart, by_column, preferred_by_column}
+use Rattle.rules.proofs.Heavier.{farther_heavier}
+use Rattle.rules.proofs.Farther.{latest_row, nearest_column, larger_row, columns_apart, by_column, preferred_by_column}
 use Rattle.rules.proofs.Farther.{row_left_out, not_overtaken, nearest_of_row, latest_held}
 use Rattle.rules.proofs.Maximal.{closed_offsets, closed_maximal, every_carried, listing_left}
 use Rattle.rules.proofs.Bounds.{W_bound, links_bound, no_matches, no_links}

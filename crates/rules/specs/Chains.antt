@@ -29,7 +29,7 @@ pub data Preferred (x : Cell) (w : ℕ) (y : Cell) (v : ℕ) : Type 0 where
 
 -- "Predecessor of a match: of its left extensions, the one ..": x is that of c
 pub record Predecessor (b : ℕ) (hit : Cell → Bool) (c x : Cell) : Type 0 where
-  pub is_match_lem : T (hit x)
+  pub is_a_match : T (hit x)
   pub is_left : T (left_extension b x c)
   pub weight : ℕ
   pub heaviest : Heaviest b hit x weight
@@ -57,7 +57,7 @@ pub record RightMaximal (b : ℕ) (hit : Cell → Bool) (c : Cell) : Type 0 wher
 
 -- "left extensions of one match": x is a match, and a left extension of c
 pub record LeftExtension (b : ℕ) (hit : Cell → Bool) (c x : Cell) : Type 0 where
-  pub is_match_lem : T (hit x)
+  pub is_a_match : T (hit x)
   pub extends : T (left_extension b x c)
 
 -- "one lies at or beyond the other in both sequences": y lies so seen from x

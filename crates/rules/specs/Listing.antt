@@ -47,12 +47,12 @@ entry_numbers k x =
 
 -- the match y is listed, with the start p and the weight w
 pub record Listed (c : Settings) (first second : List ℕ) (y p : Cell) (w : ℕ) : Type 0 where
-  pub is_match_lem : T (is_match c first second y)
+  pub is_a_match : T (is_match c first second y)
   pub is_closed : Closed c.b (is_match c first second) y
   pub weight : Heaviest c.b (is_match c first second) y w
   pub start : Start c.b (is_match c first second) y p
-  pub first_span_lem : c.m ≤ first_span c.k p y
-  pub second_span_lem : c.m ≤ second_span c.k p y
+  pub first_enough : c.m ≤ first_span c.k p y
+  pub second_enough : c.m ≤ second_span c.k p y
 
 -- "by end row, then end column. Both are compared as numbers.": x stands before y
 pub record Before (x y : Cell) : Type 0 where

@@ -31,7 +31,7 @@ held c first second r = keep (λ x. in_run c.b r x.cell) (records c first second
 
 -- the same in words: the match y is held after row r, with the start p and the weight w
 pub record Held (c : Settings) (first second : List ℕ) (r : ℕ) (y p : Cell) (w : ℕ) : Type 0 where
-  pub is_match_lem : T (is_match c first second y)
+  pub is_a_match : T (is_match c first second y)
   pub from : max 1 (r - c.b) ≤ y.row
   pub to : y.row ≤ r
   pub weight : Heaviest c.b (is_match c first second) y w

@@ -93,7 +93,7 @@ module _ (c : Settings) (hit : Cell → Bool) (columns rows : ℕ) (ring : Ring)
         rows = λ g l. old_row c.b hit columns k g l;
         small = λ g l. fits_32 g l;
         known = λ y m h. by_number y (matches_in hit columns rows y m) h;
-        matches = λ g l. is_match_lem g l;
+        matches = λ g l. is_a_match g l;
       }
     where
       fits_32 : (g : ℕ) → g < length (swept k) → ((nth (swept k) g).cell.row + c.k ≤ 2 ^ 32) × ((nth (swept k) g).cell.column + c.k ≤ 2 ^ 32)
@@ -109,8 +109,8 @@ module _ (c : Settings) (hit : Cell → Bool) (columns rows : ℕ) (ring : Ring)
           let (g, l, eg) = nth_mem (swept k) x mx in
           (g, l, sym ex ∙ ap (λ (r : Record). r.cell) eg)
 
-      is_match_lem : (g : ℕ) → g < length (swept k) → Memᴰ (nth (swept k) g).cell cells
-      is_match_lem g l =
+      is_a_match : (g : ℕ) → g < length (swept k) → Memᴰ (nth (swept k) g).cell cells
+      is_a_match g l =
           let n = matches_in hit columns k (nth (swept k) g).cell (is_match_to k g l) in
           matches_has hit columns rows (nth (swept k) g).cell (inside_more k rows (nth (swept k) g).cell (omega (arith, n.row_until)) n)
 
