@@ -10,7 +10,6 @@ use Rattle.rules.specs.Lists.{count, largest_to}
 use Rattle.rules.specs.Matches.{matches_to}
 use Rattle.rules.specs.Rooms.{in_run, largest_run}
 use Rattle.rules.proofs.ListLaws.{largest_to_le, count_length}
-use Rattle.tally.specs.declared.Counts.{Counts}
 use Rattle.tally.specs.Tallies.{counts_of}
 use Rattle.matches.specs.Walks.{row_from, walks_to, walked_to, walked, WalkSafe}
 use Rattle.matches.proofs.Walked.{walked_next}
