@@ -2,7 +2,6 @@
 use Rattle.std.proofs.Common.{◌≡◌, ℕ, suc, ◌+◌, ◌-◌, ◌*◌, ◌<◌, ◌≤◌, Bool, List, length, get_or, sym, refl, ◌∙◌, subst, arith}
 use Rattle.rules.specs.declared.Cell.{Cell}
 use Rattle.rules.specs.declared.Record.{Record}
-use Rattle.rules.proofs.Sweeps.{swept_to}
 use Rattle.rules.proofs.Tests.{Three, below, equal, above, three}
 use Rattle.matches.specs.Walks.{RowWalk}
 use Rattle.predecessors.specs.declared.Ring.{Ring}
