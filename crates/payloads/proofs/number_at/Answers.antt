@@ -15,11 +15,11 @@ overflow_mul-x c =
 pub overflow_add-x-in-loop-i : goal.overflow_add-x-in-loop-i
 overflow_add-x-in-loop-i c =
     let b : get_or c.args.bytes.now (c.args.at + c.loop-i.i) 0 < 256 =
-    omega (arith, c.shared_slice_known-1.given (c.args.at + c.loop-i.i)) in
+    omega (arith, c.type_inv.bytes (c.args.at + c.loop-i.i)) in
     omega (arith, gathering_fits _ _ _ _ _ _ c.requires.width_bound c.loop-i-test.true b c.loop-i.invariant)
 
 pub loop-i-preserved : goal.loop-i-preserved
 loop-i-preserved c =
     let b : get_or c.args.bytes.now (c.args.at + c.loop-i.i) 0 < 256 =
-    omega (arith, c.shared_slice_known-1.given (c.args.at + c.loop-i.i)) in
+    omega (arith, c.type_inv.bytes (c.args.at + c.loop-i.i)) in
     gathering_next _ _ _ _ _ c.loop-i-test.true b c.loop-i.invariant
