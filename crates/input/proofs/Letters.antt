@@ -64,6 +64,7 @@ one_each codes =
     joined (c ∷ cs) = rw (joined cs)
 
     one : (cs x : List ℕ) → Memᴰ x (map (λ (c : ℕ). c ∷ []) cs) → length x ≡ 1
+    one [] x i = elim i [ ]
     one (c ∷ cs) x (Memᴰ.head e) = ap length e
     one (c ∷ cs) x (Memᴰ.tail i) = one cs x i
 
@@ -77,6 +78,7 @@ codes_apart (c ∷ cs) b h =
 
 each_codes : (xs : List (List ℕ)) → all_codes (laid (λ (x : List ℕ). x) xs) ≡ true → (x : List ℕ) → Memᴰ x xs → all_codes x ≡ true
 unfolding laid
+each_codes [] h x i = elim i [ ]
 each_codes (y ∷ ys) h x (Memᴰ.head e) = ap all_codes e ∙ (codes_apart y (laid (λ (z : List ℕ). z) ys) h).0
 each_codes (y ∷ ys) h x (Memᴰ.tail i) = each_codes ys (codes_apart y (laid (λ (z : List ℕ). z) ys) h).1 x i
 
