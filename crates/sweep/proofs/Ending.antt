@@ -2,7 +2,7 @@
 use mathlib.Core.Path.{◌≡◌, refl, sym, ap, subst, ◌∙◌}
 use mathlib.Core.Bool.{Bool}
 use mathlib.Core.List.{List, [], ◌++◌, Memᴰ}
-use Prim.Native.Nat.{ℕ, zero, ◌+◌, ◌-◌, ◌*◌, ◌/◌, ◌%◌, ◌≤◌, ◌<◌}
+use Prim.Native.Nat.{ℕ, ◌+◌, ◌-◌, ◌*◌, ◌/◌, ◌%◌, ◌≤◌, ◌<◌}
 use native.Mathlib.Omega.{arith}
 use native.Mathlib.Nat.{zero-add, mod-eq_of_lt, mod-add-mod}
 use lib.Dec.{T}
@@ -161,7 +161,7 @@ module _ (c : Settings) (hit : Cell → Bool) (columns rows : ℕ) (ring : Ring)
 
       gone_not : (x : Record) → Memᴰ x (take tail all) → ¬ T (in_run c.b rows x.cell)
       gone_not x p t =
-          let (g, l, e) = nth_mem (take tail all) x p in
+          let (g, l, e) = nth_mem x (take tail all) p in
           let n : length (take tail all) ≡ tail = length-take-le tail all o in
           let f : x ≡ nth all g = e ∙ get_or-take tail all g nothing (omega arith) in
           let r = ap (λ (y : Record). y.cell.row) f in
@@ -171,7 +171,7 @@ module _ (c : Settings) (hit : Cell → Bool) (columns rows : ℕ) (ring : Ring)
 
       kept_in : (x : Record) → Memᴰ x (drop tail all) → T (in_run c.b rows x.cell)
       kept_in x p =
-          let (g, l, e) = nth_mem (drop tail all) x p in
+          let (g, l, e) = nth_mem x (drop tail all) p in
           let n = length-drop tail all in
           let f : x ≡ nth all (tail + g) = e ∙ get_or-drop tail all g nothing in
           let r = ap (λ (y : Record). y.cell.row) f in

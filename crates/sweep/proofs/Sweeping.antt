@@ -106,7 +106,7 @@ module _ (c : Settings) (hit : Cell → Bool) (columns rows : ℕ) (ring : Ring)
       by_number y n h =
           let m : Memᴰ y (matches_to hit columns k) = matches_has hit columns k y (inside_more rows k y (near y n.row_until h) n) in
           let (x, mx, ex) = mathlib.Core.List.Memᴰ.of_map (λ (r : Record). r.cell) (swept k) (subst⁻¹ (λ (l : List Cell). Memᴰ y l) (cells_of k) m) in
-          let (g, l, eg) = nth_mem (swept k) x mx in
+          let (g, l, eg) = nth_mem x (swept k) mx in
           (g, l, sym ex ∙ ap (λ (r : Record). r.cell) eg)
 
       is_a_match : (g : ℕ) → g < length (swept k) → Memᴰ (nth (swept k) g).cell cells
