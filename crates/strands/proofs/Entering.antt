@@ -33,8 +33,8 @@ sweep_safe firsts nexts work c slots w h s n =
       room_for = h;
       walks = w.walks;
       wide = w.wide;
-      some_base = w.some-base;
-      few_bases = w.few-bases;
+      some_base = w.some_base;
+      few_bases = w.few_bases;
     }
 
 -- without slots there is nothing to list

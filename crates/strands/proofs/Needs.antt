@@ -10,11 +10,11 @@ use Rattle.rules.proofs.ListLaws.{empty, largest_to_ge}
 use Rattle.rules.proofs.MatchList.{matches_in}
 use Rattle.matches.specs.Walks.{walks_to, walked_to, walked, walked_need}
 
-count_some : {A : Type 0} (f : A → Bool) (xs : List A) (x : A) → Memᴰ x xs → T (f x) → 1 ≤ count f xs
+count_some : {A : Type 0} (f : A → Bool) (x : A) (xs : List A) → Memᴰ x xs → T (f x) → 1 ≤ count f xs
 unfolding count
-count_some {A} f xs x (Memᴰ.head {x = y} {xs = ys} e) t =
+count_some {A} f x xs (Memᴰ.head {x = y} {xs = ys} e) t =
     by_test (λ (n : ℕ). 1 ≤ count f ys + n) (f y) 1 0 (λ _. omega arith) (λ k. absurd (k (subst (λ (z : A). T (f z)) e t)))
-count_some f xs x (Memᴰ.tail {x = y} {xs = ys} m) t = let h = count_some f ys x m t in omega arith
+count_some f x xs (Memᴰ.tail {x = y} {xs = ys} m) t = let h = count_some f x ys m t in omega arith
 
 pub none_needed : (b : ℕ) (firsts nexts : List ℕ) → walked_need b firsts nexts ≡ 0 → walked firsts nexts ≡ []
 unfolding walked_need walked walked_to largest_run in_run
@@ -28,6 +28,6 @@ none_needed b firsts nexts e = empty cells (λ y m. let i = matches_in (walks_to
 
     none : (y : Cell) → Memᴰ y cells → 1 ≤ y.row → y.row ≤ rows → ⊥
     none y m h g =
-        let k = count_some (in_run b y.row) cells y m (simp (in_run, tests) (omega arith, omega arith)) in
+        let k = count_some (in_run b y.row) y cells m (simp (in_run, tests) (omega arith, omega arith)) in
         let l = largest_to_ge (λ i. count (in_run b i) cells) rows y.row h g in
         omega arith

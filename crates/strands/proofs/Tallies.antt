@@ -1,5 +1,5 @@
 -- The tallies of both strands are those of each put together, and no sum of links comes near 64 bits: 2^28 matches have at most 2^56. Assumes nothing.
-use Rattle.std.proofs.Common.{◌≡◌, ℕ, ◌+◌, ◌*◌, ◌%◌, ◌^◌, ◌≤◌, max, List, length, ap, ◌∙◌, ap₂, mod-eq_of_lt, mul-le-mul, arith}
+use Rattle.std.proofs.Common.{◌≡◌, ℕ, ◌+◌, ◌%◌, ◌^◌, ◌≤◌, max, List, length, ap, ◌∙◌, ap₂, mod-eq_of_lt, mul-le-mul, arith}
 use Rattle.rules.specs.Rooms.{largest_run, pairs}
 use Rattle.matches.specs.Walks.{walked, WalkSafe}
 use Rattle.matches.proofs.Walked.{walked_few}
