@@ -31,8 +31,8 @@ module _ {firsts nexts : List ℕ} {row : ℕ} (w : WalkSafe firsts nexts) (h : 
   front_safe : WalkSafe (take row firsts) nexts
   front_safe =
       let l = front_long in
-      let f = w.few-rows in
-      record { few_rows = omega arith; starts = λ p. starts p (three p row); nexts_safe = w.nexts-safe }
+      let f = w.few_rows in
+      record { few_rows = omega arith; starts = λ p. starts p (three p row); nexts_safe = w.nexts_safe }
     where
       starts : (p : ℕ) → Three p row → get_or (take row firsts) p 0 ≤ length nexts
       starts p (below q) = let e = get_or-take row firsts p 0 q in let s = w.starts p in omega arith
@@ -73,7 +73,7 @@ pub hold_safe : {row : ℕ} {firsts nexts work : List ℕ} {c : Settings} {wides
     → 8 * widest ≤ length work → row ≤ length firsts → RingFrom widest before ring → SweepSafe (take row firsts) nexts work ring c
 hold_safe w h l r =
     let e = r.sized in
-    record { fits = r.fits; room_for = omega arith; walks = front_safe w.walks l; wide = w.wide; some_base = w.some-base; few_bases = w.few-bases }
+    record { fits = r.fits; room_for = omega arith; walks = front_safe w.walks l; wide = w.wide; some_base = w.some_base; few_bases = w.few_bases }
 
 module _ {row : ℕ} {firsts nexts : List ℕ} {widest before : ℕ} {ring : Ring} (w : WalkSafe firsts nexts) (l : row ≤ length firsts)
     (r : RingFrom widest before ring) (b : ℕ) where
