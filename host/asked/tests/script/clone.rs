@@ -4,7 +4,7 @@ use std::env;
 use std::fs::{self, File, Permissions};
 use std::os::unix::fs::PermissionsExt;
 use std::path::{Path, PathBuf};
-use std::process::{Command, Stdio};
+use std::process::{self, Command, Stdio};
 use std::time::{Duration, SystemTime};
 
 /// What the first run says.
@@ -50,9 +50,16 @@ printf '%s\\n' '#!/bin/sh' 'echo \"compared: $*\"' 'if [ \"$1\" != a.fa ]; then 
 chmod +x \"$target/release/annex\"
 ";
 
-/// The folder.
+/// The folder. It stands outside the checkout, where the kit would take its crates
+/// for ones to be checked, and is removed at the end.
 pub struct Clone {
     pub top: PathBuf,
+}
+
+impl Drop for Clone {
+    fn drop(&mut self) {
+        let _ = fs::remove_dir_all(&self.top);
+    }
 }
 
 /// What came of a run.
@@ -64,7 +71,7 @@ pub struct Run {
 
 impl Clone {
     pub fn new(test: &str) -> Clone {
-        let top = Path::new(env!("CARGO_TARGET_TMPDIR")).join(test);
+        let top = env::temp_dir().join(format!("hornbeamlet-{}-{test}", process::id()));
         let _ = fs::remove_dir_all(&top);
         let clone = Clone { top };
         let real = Path::new(env!("CARGO_MANIFEST_DIR")).join("../..");
