@@ -183,8 +183,9 @@
  *
  * THREADS
  *
- * A call keeps its tables on the stack of the thread that makes it. Measured on
- * Arm, and for x86-64 under an emulator, over both strands: hornbeamlet_compare
+ * A call keeps its tables on the stack of the thread that makes it. Measured
+ * with rattle-kit-5b, and not again since, on Arm, and for x86-64 under an
+ * emulator, over both strands: hornbeamlet_compare
  * and hornbeamlet_need worked on a thread with 924 kB of stack and crashed with
  * 912 kB; hornbeamlet_stopped worked with 860 kB and crashed with 848 kB. On
  * Arm alone: hornbeamlet_compare_indexed worked with 1,288 kB and crashed with

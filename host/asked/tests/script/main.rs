@@ -106,6 +106,21 @@ fn nothing_is_built_again_where_target_is_removed() {
     assert_eq!(clone.log().matches("proof\n").count(), 1);
 }
 
+/// Nor is what it leaves beside the sources.
+#[test]
+fn nothing_is_built_again_for_what_the_check_leaves() {
+    let clone = Clone::new("left");
+    let out = clone.top.join("crates/lines/out");
+    fs::create_dir_all(&out).unwrap();
+    clone.run("a.fa b.fa");
+    fs::write(out.join("kept"), "").unwrap();
+    clone.touch("crates/lines/out/kept");
+    assert_eq!(clone.run("a.fa b.fa").complaints, "");
+    fs::remove_dir_all(&out).unwrap();
+    assert_eq!(clone.run("a.fa b.fa").complaints, "");
+    assert_eq!(clone.log().matches("proof\n").count(), 1);
+}
+
 #[test]
 fn links_lead_to_the_script() {
     let clone = Clone::new("links");
