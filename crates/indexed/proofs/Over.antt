@@ -1,21 +1,22 @@
 -- The entry points over an index: a refused job ends with its rooms untouched, a wrong slice too, and any other job is the plain one. Assumes nothing.
 use mathlib.Core.Path.{◌≡◌, refl, sym, ap, subst, subst⁻¹, ◌∙◌}
 use mathlib.Core.Bool.{true, false}
-use mathlib.Core.List.{List, []}
+use mathlib.Core.List.{List, [], ◌++◌}
 use Prim.Native.Nat.{ℕ, ◌≤◌}
 use native.Mathlib.Omega.{arith}
 use lib.Dec.{T}
-use lib.ListN.{length, take}
+use lib.ListN.{length, take, replicate, length-replicate}
 use Rattle.rules.specs.declared.Settings.{Settings}
 use Rattle.rules.specs.declared.Answer.{Answer}
 use Rattle.rules.specs.Letters.{as_read}
+use Rattle.rules.specs.Places.{places}
 use Rattle.rules.specs.Codes.{codes}
 use Rattle.rules.specs.Answers.{Outcome, left, refusal, checked, compared, stopped}
 use Rattle.rules.proofs.Outcomes.{left_path}
 use Rattle.requests.specs.Index.{index_of_codes, kmer_places, codes_of, index_of, begins_with, indexed, swept_over, compared_over, stopped_over}
 use Rattle.requests.proofs.OverIndex.{over_refused, over_12, over_plain}
-use Rattle.kmers.proofs.Codes.{Front}
-use Rattle.refusals.proofs.Checking.{number_refuses, accepted}
+use Rattle.kmers.proofs.Codes.{Front, coded_front, places_few}
+use Rattle.refusals.proofs.Checking.{number_passes, number_refuses, accepted}
 use Rattle.index.specs.declared.Held.{Held}
 use Rattle.index.specs.Keys.{Keyed, numbers_read}
 use Rattle.index.proofs.Passes.{held_indexed}
@@ -41,6 +42,32 @@ pub record Read (c : Settings) (s t index out keys₀ keys : List ℕ) (columns 
   pub count : h.places ≡ kmer_places (take columns out)
   pub begins : h.begins ≡ begins_with (index_of_codes (take columns out)) index
   pub keyed : Keyed (take columns out) index keys₀ keys (numbers_read (kmer_places (take columns out)) index)
+
+-- what the call of the checks gave refuses nothing
+module _ {c : Settings} {s t : List ℕ} {r : Answer} (e : r ≡ checked c s t) (z : r.number ≡ 0) where
+  -- then the slice is read: `index::check` held it against the codes that `kmers::code_all` made of the second sequence
+  pub read_of : (rest : List ℕ) {index out keys : List ℕ} {columns : ℕ} {h : Held} → columns ≡ places c.k t
+      → out ≡ codes c.k (as_read c.mask t) ++ rest
+      → h.places ≡ kmer_places (take columns out)
+      → h.begins ≡ begins_with (index_of_codes (take columns out)) index
+      → Keyed (take columns out) index (replicate 16384 0) keys (numbers_read (kmer_places (take columns out)) index)
+      → Read c s t index out (replicate 16384 0) keys columns h
+  read_of rest n d count begins keyed =
+      let passed = number_passes e z in
+      let ok = accepted c s t passed in
+      record {
+        passed = passed;
+        codes_in = coded_front _ _ _ rest n d;
+        columns_few = omega (arith, n, places_few c.k t ok.some_base ok.short_second);
+        room = length-replicate {A = ℕ} 16384 0;
+        count = count;
+        begins = begins;
+        keyed = keyed;
+      }
+
+  -- and the job ready, once `kmers::code_all` made the codes of the first
+  pub coded_of : (rest : List ℕ) {out : List ℕ} {rows : ℕ} → rows ≡ places c.k s → out ≡ codes c.k (as_read c.mask s) ++ rest → Coded c s t out rows
+  coded_of rest n d = record { passed = number_passes e z; rows_are = n; codes_in = coded_front _ _ _ rest n d }
 
 module _ (c : Settings) (s t index : List ℕ) {out keys₀ keys : List ℕ} {columns : ℕ} {h : Held} (y : Read c s t index out keys₀ keys columns h) where
   begins_is : h.begins ≡ indexed c t index
