@@ -19,7 +19,8 @@ module _ {second own tail₀ tail nexts₀ nexts : List ℕ} {k r : ℕ} (linkin
   tail_there : r - 1 < length tail
   tail_there = omega (arith, owner_there, linking.kept)
 
-  count_there : {count₀ count : List ℕ} {a : ℕ} → TalliedFrom own (length second) k a count₀ count → length second ≤ length count₀ → r - 1 < length count
+  count_there : {count₀ count : List ℕ} {a : ℕ} → TalliedFrom own (length second) k a count₀ count → length second ≤ length count₀
+      → r - 1 < length count
   count_there tallied in_count = omega (arith, owner_there, tallied.sums.long)
 
 pub loop-p-preserved-then-e-eq0 : goal.loop-p-preserved-then-e-eq0
