@@ -1,30 +1,48 @@
 -- The job on the walks of both strands, found over the index, is the job on their matches. Assumes nothing.
-use mathlib.Core.Path.{sym}
+use mathlib.Core.Path.{◌≡◌, sym}
+use mathlib.Core.List.{List}
+use Prim.Native.Nat.{ℕ}
 use native.Mathlib.Omega.{arith}
+use lib.ListN.{replicate}
+use Rattle.rules.specs.declared.Settings.{Settings}
 use Rattle.rules.specs.Letters.{as_read}
 use Rattle.rules.proofs.Masks.{read_length}
+use Rattle.requests.specs.Index.{codes_of}
 use Rattle.walks.proofs.Matching.{BothMatched}
 use Rattle.accepted.proofs.Walking.{blank, walks_fit, compares}
+use Rattle.mirrored.specs.Mirrored.{FitsCoded, BothColumns}
 use Rattle.mirrored.proofs.Matching.{both_matched}
 use Rattle.admitted.proofs.compare_indexed.Goals as goal
 
+-- an array as it is made
+abbrev none : List ℕ
+none = replicate 16384 0
+
+-- the columns that `mirrored::both` leaves in such arrays come to the matches of both strands
+walked : {c : Settings} {s coded codes index keys : List ℕ} {n : ℕ} (t : List ℕ) → FitsCoded c s coded codes index keys n
+    → codes ≡ codes_of c.k c.mask t
+    → {firsts nexts reverse_firsts reverse_nexts : List ℕ} {rows : ℕ}
+    → BothColumns c s coded codes none none none none firsts nexts reverse_firsts reverse_nexts rows
+    → BothMatched c coded (as_read c.mask t) firsts nexts reverse_firsts reverse_nexts rows
+walked t ok e found = both_matched t ok e blank blank blank blank found
+
 pub slice_bounds-reverse_firsts-end : goal.slice_bounds-reverse_firsts-end
-slice_bounds-reverse_firsts-end c =
-    let walked : BothMatched c.args.c c.args.coded.now (as_read c.args.c.mask c.args.second.now) c.both-reverse_rows.new.firsts c.both-reverse_rows.new.nexts c.both-reverse_rows.new.reverse_firsts c.both-reverse_rows.new.reverse_nexts c.both-reverse_rows.result = both_matched c.args.second.now c.requires.fits_coded c.requires.codes_value blank blank blank blank c.both-reverse_rows.ensures in
-    walked.reverse.inside
+slice_bounds-reverse_firsts-end c = (walked _ c.requires.fits_coded c.requires.codes_value c.both-reverse_rows.ensures).reverse.inside
 
 pub slice_bounds-compare_matches-end-3 : goal.slice_bounds-compare_matches-end-3
-slice_bounds-compare_matches-end-3 c =
-    let walked : BothMatched c.args.c c.args.coded.now (as_read c.args.c.mask c.args.second.now) c.both-reverse_rows.new.firsts c.both-reverse_rows.new.nexts c.both-reverse_rows.new.reverse_firsts c.both-reverse_rows.new.reverse_nexts c.both-reverse_rows.result = both_matched c.args.second.now c.requires.fits_coded c.requires.codes_value blank blank blank blank c.both-reverse_rows.ensures in
-    walked.reverse.long
-
-pub returns : goal.returns
-returns c =
-    let walked : BothMatched c.args.c c.args.coded.now (as_read c.args.c.mask c.args.second.now) c.both-reverse_rows.new.firsts c.both-reverse_rows.new.nexts c.both-reverse_rows.new.reverse_firsts c.both-reverse_rows.new.reverse_nexts c.both-reverse_rows.result = both_matched c.args.second.now c.requires.fits_coded c.requires.codes_value blank blank blank blank c.both-reverse_rows.ensures in
-    compares walked _ _ (sym (read_length c.args.c.mask c.args.second.now)) c.compare_matches.ensures
+slice_bounds-compare_matches-end-3 c = (walked _ c.requires.fits_coded c.requires.codes_value c.both-reverse_rows.ensures).reverse.long
 
 pub compare_matches-requires : goal.compare_matches-requires
 compare_matches-requires c =
-    let walked : BothMatched c.args.c c.args.coded.now (as_read c.args.c.mask c.args.second.now) c.both-reverse_rows.new.firsts c.both-reverse_rows.new.nexts c.both-reverse_rows.new.reverse_firsts c.both-reverse_rows.new.reverse_nexts c.both-reverse_rows.result = both_matched c.args.second.now c.requires.fits_coded c.requires.codes_value blank blank blank blank c.both-reverse_rows.ensures in
-    let m = walked in
-    record { walked = walks_fit c.requires.fits m.forward; walked_2 = walks_fit c.requires.fits m.reverse; letters_bound = omega (arith, c.requires.fits.short_second, c.requires.fits_coded.fits.short_first) }
+    let ok = c.requires.fits in
+    let m = walked _ c.requires.fits_coded c.requires.codes_value c.both-reverse_rows.ensures in
+    record {
+      walked = walks_fit ok m.forward;
+      walked_2 = walks_fit ok m.reverse;
+      letters_bound = omega (arith, ok.short_second, c.requires.fits_coded.fits.short_first);
+    }
+
+pub returns : goal.returns
+returns c =
+    let m = walked _ c.requires.fits_coded c.requires.codes_value c.both-reverse_rows.ensures in
+    compares m _ _ (sym (read_length c.args.c.mask c.args.second.now)) c.compare_matches.ensures
