@@ -23,15 +23,11 @@ offset_bounds-ends-bucket c = omega (arith, bucket_small)
 pub bounds-ends-bucket : goal.bounds-ends-bucket
 bounds-ends-bucket c = omega (arith, bucket_small, c.requires.bucketed.wide)
 
-pub reach-begin-requires : goal.reach-begin-requires
-reach-begin-requires c =
-    let can = can_reach c.requires.indexed c.requires.bucketed (ending _ c.bucket.ensures) in
-    record { end_in_bounds = can.0; rising = can.1 }
+pub reach-begin-requires-clause-rising : goal.reach-begin-requires-clause-rising
+reach-begin-requires-clause-rising c = (can_reach c.requires.indexed c.requires.bucketed (ending _ c.bucket.ensures)).1
 
-pub lower-q-requires : goal.lower-q-requires
-lower-q-requires c =
-    let can = can_reach c.requires.indexed c.requires.bucketed (ending _ c.bucket.ensures) in
-    record { begin_le_end = c.reach-begin.ensures.upto; end_in_bounds = can.0; rising = can.1 }
+pub lower-q-requires-clause-rising : goal.lower-q-requires-clause-rising
+lower-q-requires-clause-rising c = (can_reach c.requires.indexed c.requires.bucketed (ending _ c.bucket.ensures)).1
 
 pub returns-then-end-q : goal.returns-then-end-q
 returns-then-end-q c =

@@ -29,9 +29,8 @@ module _ (mask : ℕ) (s : List ℕ) {n b : ℕ} (letter_in : n < length s) (is_
 pub loop-n-init : goal.loop-n-init
 loop-n-init c = (search rules, rolled_start _ _, written_start _ _ _ c.requires.le_k)
 
-pub roll-code-requires : goal.roll-code-requires
-roll-code-requires c =
-    record { code_bound = rolled_62 _ _ _ _ _ c.requires.k_bound c.loop-n.invariant.1; base_bound = search rules; bits_value = search rules }
+pub roll-code-requires-clause-code_bound : goal.roll-code-requires-clause-code_bound
+roll-code-requires-clause-code_bound c = rolled_62 _ _ _ _ _ c.requires.k_bound c.loop-n.invariant.1
 
 pub slot-requires : goal.slot-requires
 slot-requires c =

@@ -38,6 +38,5 @@ loop-read-preserved c =
 pub returns : goal.returns
 returns c = reading_end _ _ _ _ _ c.loop-read-test.false c.loop-read.invariant
 
-pub push-code-requires : goal.push-code-requires
-push-code-requires c =
-    record { code_bound = reading_62 _ _ _ _ _ c.requires.k_bound c.loop-read.invariant; base_bound = search rules }
+pub push-code-requires-clause-code_bound : goal.push-code-requires-clause-code_bound
+push-code-requires-clause-code_bound c = reading_62 _ _ _ _ _ c.requires.k_bound c.loop-read.invariant

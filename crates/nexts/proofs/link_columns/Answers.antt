@@ -6,7 +6,7 @@ use lib.ListN.{get_or, length}
 use borrow.Author.Rules.{rules}
 use Rattle.ownership.specs.Owners.{Owns}
 use Rattle.totals.proofs.Counting.{TalliedFrom, from_skip, from_small, from_next, from_end}
-use Rattle.nexts.proofs.Links.{Linking, owner_in, linking_skip, linking_next, linking_end}
+use Rattle.nexts.proofs.Links.{Linking, owner_in, linking_skip, linking_next}
 use Rattle.nexts.proofs.link_columns.Goals as goal
 
 -- at the column before k, whose code has the owner r: r has a place in tail and in count
@@ -61,5 +61,5 @@ loop-p-preserved c =
       rw c.count_on.ensures (from_next (c.loop-p.p - 1) (omega arith) (omega arith) read i.1 some (search (rules, count_there))),
     )
 
-pub returns : goal.returns
-returns c = record { next_columns = search (rules, linking_end); tallied = from_end c.loop-p-test.false c.loop-p.invariant.1 }
+pub returns-clause-tallied : goal.returns-clause-tallied
+returns-clause-tallied c = from_end c.loop-p-test.false c.loop-p.invariant.1
