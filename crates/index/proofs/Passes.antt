@@ -1,54 +1,44 @@
 -- The laws of the pass: what it has counted, read and seen after so many turns, and its ways out. Assumes nothing.
 use mathlib.Core.Path.{◌≡◌, refl, sym, ap, subst, subst⁻¹, ◌∙◌}
-use mathlib.Core.Bool.{Bool, true, false, cond}
+use mathlib.Core.Bool.{Bool, true, false, cond, not}
 use mathlib.Core.List.{List, ◌∷◌}
 use Prim.Native.Nat.{ℕ, zero, suc, ◌+◌, ◌-◌, ◌<◌, ◌≤◌}
 use native.Mathlib.Omega.{arith}
 use native.Mathlib.Numerals.{add-one}
-use borrow.Author.Tests.{lt-ltb, le-ltb, eq-eqb, ne_eqb}
+use borrow.Author.Tests.{lt-ltb, le-ltb}
 use lib.Dec.{T, ltb}
-use lib.ListN.{length, get_or, set, length-set}
+use lib.ListN.{length, get_or, set, length-set, take}
+use Rattle.std.proofs.Common.{count_by, nat_eq}
+use lib.Seq.{take-length}
+use Rattle.std.proofs.lemmas.Bool.Decides.{nat_tests}
+use Rattle.std.proofs.lemmas.List.Sums.{count_by_more_yes, count_by_more_no}
 use Rattle.rules.specs.Lists.{count_to}
 use Rattle.rules.specs.Codes.{code_at}
 use Rattle.requests.specs.Index.{has_kmer, index_of_codes, kmer_places, StandsBefore, begins_with}
-use Rattle.rules.proofs.Tests.{tests, T_true, T_false, and_false, Three, below, equal, above, three}
+use Rattle.rules.proofs.Tests.{tests, T_true, T_false, Three, below, equal, above, three}
 use Rattle.order.proofs.Cases.{after_set}
 use Rattle.requests.proofs.IndexPass.{Rising, rising_start, rising_next, rising_first, rising_end, indexed_rising, indexed_long, wrong_short}
 use Rattle.index.specs.Keys.{Keyed, numbers_read, goes_on, Indexed}
 
 -- ---- counting
 
-pub record Counted (codes : List ℕ) (n count : ℕ) : Type 0 where
-  pub upto : n ≤ length codes
-  pub few : count ≤ n
-  pub counts : count ≡ count_to (has_kmer codes) n
+abbrev has_code : ℕ → Bool
+has_code x = not (nat_eq x 0)
 
-pub count_start : (codes : List ℕ) → Counted codes 0 0
-unfolding count_to
-count_start codes = record { upto = omega arith; few = omega arith; counts = refl }
+count_step : (codes : List ℕ) (n : ℕ) → n < length codes
+    → count_by has_code (take (n + 1) codes) ≡ count_by has_code (take n codes) + cond (ltb 0 (get_or codes n 0)) 1 0
+count_step codes n l = grind (arith, nat_tests, count_by_more_yes has_code codes n 0 l, count_by_more_no has_code codes n 0 l)
 
-module _ {codes : List ℕ} {n count : ℕ} (w : Counted codes n count) (l : n < length codes) where
-  pub count_one : 0 < get_or codes n 0 → Counted codes (n + 1) (count + 1)
-  unfolding count_to has_kmer code_at
-  count_one h =
-      record {
-        upto = omega arith;
-        few = omega (arith, w.few);
-        counts = rw (add-one n, lt-ltb 0 (get_or codes n 0) h) (ap (λ (m : ℕ). m + 1) w.counts);
-      }
+count_front : (codes : List ℕ) (n : ℕ) → n ≤ length codes → count_by has_code (take n codes) ≡ count_to (has_kmer codes) n
+unfolding count_to has_kmer code_at
+count_front codes zero h = refl
+count_front codes (suc n) h =
+    rw (← add-one n) (count_step codes n (omega arith)) ∙ ap (λ (m : ℕ). m + cond (ltb 0 (get_or codes n 0)) 1 0) (count_front codes n (omega arith))
 
-  pub count_none : get_or codes n 0 ≤ 0 → Counted codes (n + 1) count
-  unfolding count_to has_kmer code_at
-  count_none h =
-      record {
-        upto = omega arith;
-        few = omega (arith, w.few);
-        counts = rw (add-one n, le-ltb 0 (get_or codes n 0) h) (omega (arith, w.counts));
-      }
-
-pub count_end : {codes : List ℕ} {n count : ℕ} → Counted codes n count → length codes ≤ n → count ≡ kmer_places codes
+-- the numbers that are not 0 are the places that have a k-mer
+pub count_codes : (codes : List ℕ) → count_by has_code codes ≡ kmer_places codes
 unfolding kmer_places
-count_end {codes} {n} w h = let e : n ≡ length codes = omega (arith, w.upto) in w.counts ∙ ap (count_to (has_kmer codes)) e
+count_codes codes = ap (count_by has_code) (sym (take-length codes)) ∙ count_front codes (length codes) (omega arith)
 
 count_few : (codes : List ℕ) (n : ℕ) → count_to (has_kmer codes) n ≤ n
 unfolding count_to
@@ -104,23 +94,6 @@ unfolding numbers_read
 read_all {index = index} {n = n} h k = rw (le-ltb (length index) n h) k
 
 -- ---- one turn of the check
-
-module _ (d last c p : ℕ) where
-  pub goes_above : d < c → true ≡ goes_on d last c p
-  unfolding goes_on
-  goes_above h = rw (lt-ltb 0 c (omega arith), lt-ltb d c h)
-
-  pub goes_below : c < d → false ≡ goes_on d last c p
-  unfolding goes_on
-  goes_below h = rw (le-ltb d c (omega arith), ne_eqb d c (λ e. omega arith), and_false (ltb 0 c))
-
-  pub goes_none : c ≡ 0 → false ≡ goes_on d last c p
-  unfolding goes_on
-  goes_none h = rw (le-ltb 0 c (omega arith))
-
-  pub goes_tie : (c ≡ 0 → ⊥) → d ≤ c → c ≤ d → ltb last p ≡ goes_on d last c p
-  unfolding goes_on
-  goes_tie n g h = rw (lt-ltb 0 c (omega arith), le-ltb d c (omega arith), eq-eqb d c (omega arith))
 
 -- what a turn decides
 module _ {codes : List ℕ} {d last c p : ℕ} (ed : d ≡ code_at codes last) (ec : c ≡ code_at codes p) where

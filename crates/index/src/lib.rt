@@ -16,20 +16,11 @@ pub struct Held {
     pub begins: bool,
 }
 
-// How many places have a k-mer: one turn a place.
+// How many places have a k-mer: one look at each.
 fn count_kmers(codes: &[u64]) -> usize
     ensures { result ≡ kmer_places codes.now }
 {
-    let mut count: usize = 0;
-    let mut n: usize = 0;
-    while n < codes.len() {
-        let code = codes[n];
-        n += 1;
-        if 0 < code {
-            count += 1;
-        }
-    }
-    count
+    codes.iter().filter(|code| **code != 0).count()
 }
 
 // The code at a place, and 0 outside the places: so any number may stand in the slice.
@@ -37,9 +28,10 @@ fn code_of(codes: &[u64], place: u32) -> u64
     ensures { result ≡ code_at codes.now place }
 {
     if place == 0 {
-        return 0;
+        0
+    } else {
+        order::code_at(codes, place - 1)
     }
-    order::code_at(codes, place - 1)
 }
 
 // The codes of the first n numbers of a slice: one turn each.
@@ -48,27 +40,16 @@ fn read_keys(codes: &[u64], index: &[u32], n: usize, keys: &mut [u64])
     requires n_in_bounds_2 { n ≤ length keys.old }
     ensures { Keyed codes.now index.now keys.old keys.new n }
 {
-    let mut q: usize = 0;
-    while q < n {
-        keys[q] = code_of(codes, index[q]);
-        q += 1;
+    for (q, place) in index[..n].iter().enumerate() {
+        keys[q] = code_of(codes, *place);
     }
 }
 
-// Whether place p with code c goes on behind place `last` with code d.
+// Whether place p with code c goes on behind place `last` with code d: it has a k-mer, and stands behind by code, equal codes by place.
 fn goes_on(d: u64, last: u32, c: u64, p: u32) -> bool
     ensures { result ≡ goes_on d last c p }
 {
-    if d < c {
-        return true;
-    }
-    if c < d {
-        return false;
-    }
-    if c == 0 {
-        return false;
-    }
-    last < p
+    c != 0 && (d, last) < (c, p)
 }
 
 // Whether n places in a slice, with their codes in keys, are the index: each has a k-mer and stands behind the one before it. One turn each.
@@ -79,19 +60,14 @@ fn begins(codes: &[u64], index: &[u32], keys: &[u64], n: usize) -> bool
     requires keyed { Keyed codes.now index.now keys.now keys.now n }
     ensures { result ≡ begins_with (index_of_codes codes.now) index.now }
 {
-    let mut t: usize = 0;
     let mut code: u64 = 0;
     let mut last: u32 = 0;
-    while t < n {
-        let c = keys[t];
-        let p = index[t];
-        if goes_on(code, last, c, p) {
-            t += 1;
-            code = c;
-            last = p;
-        } else {
+    for (t, p) in index[..n].iter().enumerate() {
+        if !goes_on(code, last, keys[t], *p) {
             return false;
         }
+        code = keys[t];
+        last = *p;
     }
     true
 }
