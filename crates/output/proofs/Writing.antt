@@ -1,8 +1,8 @@
 -- Lines written one behind the other into one lent slice. Assumes nothing.
 use mathlib.Core.Path.{◌≡◌, refl, sym, ap, ap₂, ◌∙◌}
 use mathlib.Core.Bool.{Bool, true, false, cond}
-use mathlib.Core.List.{List, ◌++◌, append_assoc}
-use Prim.Native.Nat.{ℕ, zero, suc, ◌+◌, ◌-◌, ◌*◌, ◌≤◌, ◌<◌}
+use mathlib.Core.List.{List, [], ◌∷◌, ◌++◌, append_assoc}
+use Prim.Native.Nat.{ℕ, zero, suc, ◌+◌, ◌-◌, ◌*◌, ◌/◌, ◌≤◌, ◌<◌}
 use native.Mathlib.Numerals.{add-one}
 use native.Mathlib.Omega.{arith}
 use borrow.Author.Tests.{le-leb, eq-eqb, ne_eqb}
@@ -10,6 +10,8 @@ use borrow.Rule.Slice.PartMut.{mid_of, put_mid}
 use lib.Dec.{eqb}
 use lib.ListN.{length, get_or, take, drop, length-append, length-drop}
 use lib.Seq.{take_at, drop_at, drop-drop}
+use Rattle.std.specs.Simd.{first_chunks}
+use Rattle.std.proofs.lemmas.List.{get_or-drop, get_or-take}
 use Rattle.rules.specs.Lists.{laid}
 use Rattle.rules.proofs.ListLaws.{laid_snoc}
 use Rattle.rooms.proofs.Rests.{rest_is, rest_back}
@@ -85,6 +87,39 @@ entries_length list (suc n) =
     rw (laid_snoc line_of_entry (entries_in list n) (entry_in list n))
     (omega (arith, length-append (laid line_of_entry (entries_in list n)) (line_of_entry (entry_in list n)), entries_length list n, entry_length (entry_in list n)))
 
+-- a list room cut into sixes has its entries
+entry_next : (list : List ℕ) (n : ℕ) → entry_in (drop 6 list) n ≡ entry_in list (suc n)
+unfolding entry_in
+entry_next list n =
+    let at : (i j : ℕ) → j ≡ 6 + i → get_or (drop 6 list) i 0 ≡ get_or list j 0 = λ i j e. get_or-drop 6 list i 0 ∙ ap (λ k. get_or list k 0) (sym e) in
+    λ i. at (6 * n) (6 * suc n) (omega arith) i
+    ∷ at (6 * n + 1) (6 * suc n + 1) (omega arith) i
+    ∷ at (6 * n + 2) (6 * suc n + 2) (omega arith) i
+    ∷ at (6 * n + 3) (6 * suc n + 3) (omega arith) i
+    ∷ at (6 * n + 4) (6 * suc n + 4) (omega arith) i
+    ∷ at (6 * n + 5) (6 * suc n + 5) (omega arith) i
+    ∷ []
+
+front_entry : (list : List ℕ) → 6 ≤ length list → take 6 list ≡ entry_in list 0
+unfolding entry_in
+front_entry [] h = absurd (omega arith)
+front_entry (a ∷ []) h = absurd (omega arith)
+front_entry (a ∷ b ∷ []) h = absurd (omega arith)
+front_entry (a ∷ b ∷ c ∷ []) h = absurd (omega arith)
+front_entry (a ∷ b ∷ c ∷ d ∷ []) h = absurd (omega arith)
+front_entry (a ∷ b ∷ c ∷ d ∷ e ∷ []) h = absurd (omega arith)
+front_entry (a ∷ b ∷ c ∷ d ∷ e ∷ f ∷ rest) h = refl
+
+sixes : (list : List ℕ) (k n : ℕ) → n < k → 6 * k ≤ length list → get_or (first_chunks 6 k list) n [] ≡ entry_in list n
+sixes list zero n h l = absurd (omega arith)
+sixes list (suc k) zero h l = front_entry list (omega arith)
+sixes list (suc k) (suc n) h l = sixes (drop 6 list) k n (omega arith) (omega (arith, length-drop 6 list)) ∙ entry_next list n
+
+pub chunk_is_entry : (list : List ℕ) (chunks : List (List ℕ)) (count n : ℕ) → chunks ≡ first_chunks 6 (length list / 6) list → n < count
+    → 6 * count ≤ length list → get_or (take count chunks) n [] ≡ entry_in list n
+chunk_is_entry list chunks count n e h l =
+    get_or-take count chunks n [] h ∙ rw e (sixes list (length list / 6) n (omega arith) (omega arith))
+
 -- the first n entries are written
 pub record Writing (list old out : List ℕ) (count at n : ℕ) : Type 0 where
   pub most : n ≤ count
@@ -98,9 +133,9 @@ module _ {list old : List ℕ} {count : ℕ} where
   writing_start = record { most = omega arith; place = refl; lines = refl; long = refl }
 
   module _ (safe : EntriesSafe list old count) {out : List ℕ} {at n : ℕ} (v : Writing list old out count at n) where
-    module _ (h : n < count) {w : Written} {left : List ℕ}
-        (ew : w ≡ written (entry_fits (entry_of (entry_in list n))) (line_of_entry (entry_in list n)) (mid_of at (length out - at) out))
-        (el : left ≡ leaves (entry_fits (entry_of (entry_in list n))) (line_of_entry (entry_in list n)) (mid_of at (length out - at) out)) where
+    module _ (h : n < count) {numbers : List ℕ} (en : numbers ≡ entry_in list n) {w : Written} {left : List ℕ}
+        (ew : w ≡ written (entry_fits (entry_of numbers)) (line_of_entry numbers) (mid_of at (length out - at) out))
+        (el : left ≡ leaves (entry_fits (entry_of numbers)) (line_of_entry numbers) (mid_of at (length out - at) out)) where
       abbrev line : List ℕ
       line = line_of_entry (entry_in list n)
 
@@ -119,7 +154,7 @@ module _ {list old : List ℕ} {count : ℕ} where
       fact : (w.length ≡ length line) × (left ≡ line ++ drop (length line) (mid_of at (length out - at) out))
       fact =
           wrote (entry_fits (entry_of (entry_in list n))) line (mid_of at (length out - at) out) left w (safe.fit n h)
-          (rest_long text old out line left at e o v.long roomy) ew el
+          (rest_long text old out line left at e o v.long roomy) (rw en at ew) (rw en at el)
 
       pub writing_length : w.length ≡ 27
       writing_length = fact.0 ∙ entry_length (entry_in list n)

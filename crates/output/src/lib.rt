@@ -12,38 +12,35 @@ use kinds::{Done, Entry, Refused, Span};
 use lines::Written;
 use rules::{Answer, Settings};
 
-// The first five numbers of the entry behind n others.
-fn entry_at(list: &[u32], n: usize) -> Entry
-    requires { 6 * n + 6 ≤ length list.now }
-    ensures { result ≡ entry_of (entry_in list.now n) }
+// The first five of an entry's six numbers.
+fn entry_of(numbers: &[u32; 6]) -> Entry
+    ensures { result ≡ entry_of numbers.now }
 {
-    let at = 6 * n;
-    let first = Span {
-        start: numbers::long(list[at]),
-        end: numbers::long(list[at + 1]),
-    };
-    let second = Span {
-        start: numbers::long(list[at + 2]),
-        end: numbers::long(list[at + 3]),
-    };
+    let &[first_start, first_end, second_start, second_end, weight, _] = numbers;
     Entry {
-        first,
-        second,
-        weight: numbers::long(list[at + 4]),
+        first: Span {
+            start: u64::from(first_start),
+            end: u64::from(first_end),
+        },
+        second: Span {
+            start: u64::from(second_start),
+            end: u64::from(second_end),
+        },
+        weight: u64::from(weight),
     }
 }
 
-// Writes the line of the entry behind n others: its kind tells the strand.
-fn put_entry(list: &[u32], n: usize, output: &mut [u8]) -> Written
-    requires { 6 * n + 6 ≤ length list.now }
-    ensures value { result ≡ written (entry_fits (entry_of (entry_in list.now n))) (line_of_entry (entry_in list.now n)) output.old }
-    ensures output_after { output.new ≡ leaves (entry_fits (entry_of (entry_in list.now n))) (line_of_entry (entry_in list.now n)) output.old }
+// Writes the line of an entry: its kind tells the strand.
+fn put_entry(numbers: &[u32; 6], output: &mut [u8]) -> Written
+    ensures value { result ≡ written (entry_fits (entry_of numbers.now)) (line_of_entry numbers.now) output.old }
+    ensures output_after { output.new ≡ leaves (entry_fits (entry_of numbers.now)) (line_of_entry numbers.now) output.old }
 {
-    let entry = entry_at(list, n);
-    if list[6 * n + 5] == 0 {
-        return writers::write_entry(entry, output);
+    let entry = entry_of(numbers);
+    if numbers[5] == 0 {
+        writers::write_entry(entry, output)
+    } else {
+        writers::write_reverse_entry(entry, output)
     }
-    writers::write_reverse_entry(entry, output)
 }
 
 // Writes the first entries of a list room, a line each, and returns where the lines end.
@@ -52,21 +49,13 @@ fn put_entries(list: &[u32], count: usize, output: &mut [u8]) -> usize
     ensures value { result ≡ 27 * count }
     ensures output_after { output.new ≡ laid line_of_entry (entries_in list.now count) ++ drop (27 * count) output.old }
 {
-    let mut at: usize = 0;
-    let mut n: usize = 0;
-    while n < count {
-        let line = put_entry(list, n, &mut output[at..]);
+    let (entries, _) = list.as_chunks::<6>();
+    let mut at = 0;
+    for entry in &entries[..count] {
+        let line = put_entry(entry, &mut output[at..]);
         at += line.length;
-        n += 1;
     }
     at
-}
-
-// A cast that asks nothing of its caller.
-fn size(x: u64) -> usize
-    ensures { result ≡ x }
-{
-    x as usize
 }
 
 // Writes the entries of a list room and one done frame, and returns where the lines end.
@@ -75,7 +64,7 @@ fn put_listing(list: &[u32], x: Answer, output: &mut [u8]) -> usize
     ensures value { result ≡ length (listing_lines list.now x) }
     ensures output_after { output.new ≡ in_front (listing_lines list.now x) output.old }
 {
-    let at = put_entries(list, size(x.listed), output);
+    let at = put_entries(list, x.listed as usize, output);
     let done = Done {
         listed: x.listed,
         matches: x.matches,

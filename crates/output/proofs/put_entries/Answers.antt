@@ -1,15 +1,25 @@
-use native.Mathlib.Omega.{arith}
-use Rattle.output.proofs.Writing.{writing_start, writing_length, writing_next}
+-- Assumes nothing.
+use Rattle.std.proofs.Common.{◌<◌, length-take, arith}
+use Rattle.output.proofs.Writing.{writing_start, writing_length, writing_next, chunk_is_entry}
 use Rattle.output.proofs.put_entries.Goals as goal
 
-pub loop-n-init : goal.loop-n-init
-loop-n-init c =
+pub slice_bounds-put_entry-count : goal.slice_bounds-put_entry-count
+slice_bounds-put_entry-count c =
+    omega (arith, c.as_chunks.ensures.front_len, c.requires.held)
+
+pub loop-entry-init : goal.loop-entry-init
+loop-entry-init c =
     writing_start
 
 pub overflow_add-at : goal.overflow_add-at
 overflow_add-at c =
-    omega (arith, writing_length c.requires c.loop-n.invariant c.loop-n-test.true c.put_entry-line.ensures.value c.put_entry-line.ensures.output_after, c.requires.few, c.loop-n.invariant.place)
+    let h : c.loop-entry.entry-index < c.args.count = omega (arith, length-take c.args.count c.as_chunks.result.0.now) in
+    let en = chunk_is_entry _ _ _ _ c.as_chunks.ensures.front h c.requires.held in
+    let l = writing_length c.requires c.loop-entry.invariant h en c.put_entry-line.ensures.value c.put_entry-line.ensures.output_after in
+    omega (arith, l, c.requires.few, c.loop-entry.invariant.place)
 
-pub loop-n-preserved : goal.loop-n-preserved
-loop-n-preserved c =
-    writing_next c.requires c.loop-n.invariant c.loop-n-test.true c.put_entry-line.ensures.value c.put_entry-line.ensures.output_after
+pub loop-entry-preserved : goal.loop-entry-preserved
+loop-entry-preserved c =
+    let h : c.loop-entry.entry-index < c.args.count = omega (arith, length-take c.args.count c.as_chunks.result.0.now) in
+    let en = chunk_is_entry _ _ _ _ c.as_chunks.ensures.front h c.requires.held in
+    writing_next c.requires c.loop-entry.invariant h en c.put_entry-line.ensures.value c.put_entry-line.ensures.output_after

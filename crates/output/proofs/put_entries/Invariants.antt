@@ -1,10 +1,6 @@
--- `output::put_entries` meets its contract: the first n entries stand as lines, and behind them what was there. Assumes nothing.
-use Prim.Native.Nat.{◌-◌}
+-- `output::put_entries` meets its contract: the entries so far stand as lines, and behind them what was there. Assumes nothing.
 use Rattle.output.proofs.Writing.{Writing}
 use Rattle.output.proofs.put_entries.Given as goal
 
-abbrev pub invariant-loop-n : goal.invariant-loop-n
-invariant-loop-n l = Writing l.list l.initial.output l.output l.count l.at l.n
-
-abbrev pub decreases-loop-n : goal.decreases-loop-n
-decreases-loop-n l = l.count - l.n
+abbrev pub invariant-loop-entry : goal.invariant-loop-entry
+invariant-loop-entry l = Writing l.list l.initial.output l.output l.count l.at l.entry-index
