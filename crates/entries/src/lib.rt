@@ -14,13 +14,12 @@ pub fn put_entry(list: &mut [u32], n: usize, k: u32, x: Record)
     ensures { list.new ≡ put_entry list.old n k x }
 {
     let last = k - 1;
-    let end_row = std::num::wrapping_add_u32(x.cell.row, last);
-    let end_column = std::num::wrapping_add_u32(x.cell.column, last);
     let at = 6 * n;
+    // as in `records`, stores
     list[at] = x.start.row;
-    list[at + 1] = end_row;
+    list[at + 1] = x.cell.row.wrapping_add(last);
     list[at + 2] = x.start.column;
-    list[at + 3] = end_column;
+    list[at + 3] = x.cell.column.wrapping_add(last);
     list[at + 4] = x.weight;
     list[at + 5] = 0;
 }
@@ -30,10 +29,7 @@ fn turned_place(letters: u32, place: u32) -> u32
     requires { letters ≤ 16384 }
     ensures { result ≡ turned letters place }
 {
-    if letters < place {
-        return 0;
-    }
-    letters - place + 1
+    (letters + 1).saturating_sub(place)
 }
 
 // The entry behind n others turned back: the places of the second sequence counted from its other end, start and end exchanged, and the strand 1.
@@ -56,9 +52,7 @@ pub fn turn_entries(list: &mut [u32], count: usize, letters: u32)
     requires letters_bound { letters ≤ 16384 }
     ensures { list.new ≡ turn_entries letters list.old count }
 {
-    let mut n: usize = 0;
-    while n < count {
+    for n in 0..count {
         turn_entry(list, n, letters);
-        n += 1;
     }
 }

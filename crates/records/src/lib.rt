@@ -12,17 +12,15 @@ pub fn record_at(room: &[u32], slot: usize) -> Record
     ensures { result ≡ record_in room.now slot }
 {
     let at = 8 * slot;
-    let row = room[at];
-    let column = room[at + 1];
-    let weight = room[at + 2];
-    let start_row = room[at + 3];
-    let start_column = room[at + 4];
     Record {
-        cell: Cell { row, column },
-        weight,
+        cell: Cell {
+            row: room[at],
+            column: room[at + 1],
+        },
+        weight: room[at + 2],
         start: Cell {
-            row: start_row,
-            column: start_column,
+            row: room[at + 3],
+            column: room[at + 4],
         },
     }
 }
@@ -33,6 +31,7 @@ pub fn put_record(room: &mut [u32], slot: usize, x: Record)
     ensures { room.new ≡ put_record room.old slot x }
 {
     let at = 8 * slot;
+    // kept: eight stores, once a match; an array that is copied in goes through the stack, with a test that it does not overlap
     room[at] = x.cell.row;
     room[at + 1] = x.cell.column;
     room[at + 2] = x.weight;

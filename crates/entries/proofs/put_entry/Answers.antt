@@ -6,4 +6,4 @@ use Rattle.entries.proofs.put_entry.Goals as goal
 pub returns : goal.returns
 unfolding put_entry
 returns c =
-    simp (towards_suc, c.wrapping_add_u32-end_row.ensures.value, c.wrapping_add_u32-end_column.ensures.value)
+    simp towards_suc

@@ -1,10 +1,7 @@
 -- After n turns the first n entries are turned back. Assumes nothing.
-use Rattle.std.proofs.Common.{◌≡◌, ◌-◌, ◌≤◌}
+use Rattle.std.proofs.Common.{◌≡◌}
 use Rattle.entries.specs.Layout.{turn_entries}
 use Rattle.entries.proofs.turn_entries.Given as goal
 
 abbrev pub invariant-loop-n : goal.invariant-loop-n
-invariant-loop-n l = (l.n ≤ l.count) × (l.list ≡ turn_entries l.letters l.initial.list l.n)
-
-abbrev pub decreases-loop-n : goal.decreases-loop-n
-decreases-loop-n l = l.count - l.n
+invariant-loop-n l = l.list ≡ turn_entries l.letters l.initial.list l.n

@@ -1,8 +1,8 @@
--- `rooms::zero_all` meets its contract: zeros from the first number on. Assumes nothing.
-use mathlib.Core.Path.{◌∙◌}
-use Rattle.rooms.proofs.Zeros.{all_zeros}
+-- `rooms::zero_all` meets its contract: it is the definition. Assumes nothing.
+use Rattle.std.proofs.Common.{rules}
+use Rattle.rules.specs.Lists.{zeros}
 use Rattle.rooms.proofs.zero_all.Goals as goal
 
 pub returns : goal.returns
-returns c =
-    c.zero_from.ensures ∙ all_zeros c.args.room.now
+unfolding zeros
+returns c = search rules
