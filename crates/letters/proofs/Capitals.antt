@@ -3,6 +3,8 @@
 use mathlib.Core.Path.{◌≡◌, sym, ap, ◌∙◌}
 use mathlib.Core.Bool.{Bool, false, cond}
 use mathlib.Core.List.{List}
+use mathlib.Core.Logic.{◌⊎◌, inl, inr}
+use native.Mathlib.Omega.{arith}
 use Prim.Native.Nat.{ℕ, ◌-◌, ◌<◌, ◌≤◌}
 use lib.Bits.{bit_and, bit_or}
 use lib.Dec.{eqb, ltb, eqb→eq}
@@ -16,13 +18,11 @@ use Rattle.rules.proofs.Computed.{at_each, same_test}
 -- ---- a table at a byte
 
 module _ (table : List ℕ) (x : ℕ) where
-  pub below_a : x < 65 → 0 ≡ at_capital table x
+  -- below A, or above Z
+  pub other : (x < 65) ⊎ (90 < x) → 0 ≡ at_capital table x
   unfolding at_capital
-  below_a l = rw (lt-ltb x 65 l)
-
-  pub above_z : 65 ≤ x → 90 < x → 0 ≡ at_capital table x
-  unfolding at_capital
-  above_z m l = rw (le-ltb x 65 m, lt-ltb 90 x l)
+  other (inl l) = rw (lt-ltb x 65 l)
+  other (inr l) = rw (le-ltb x 65 (omega arith), lt-ltb 90 x l)
 
   pub capital : 65 ≤ x → x ≤ 90 → get_or table (x - 65) 0 ≡ at_capital table x
   unfolding at_capital

@@ -6,6 +6,10 @@ use native.Mathlib.Omega.{arith}
 use native.Mathlib.Numerals.{add-one}
 use lib.ListN.{length, get_or, drop, set, length-append, length-drop, drop_of_length-le}
 use lib.Seq.{drop-cons, set_at, append_snoc}
+use Rattle.std.proofs.Common.{reverse, zero-add}
+use Rattle.std.specs.List.{enumerate_from}
+use Rattle.std.proofs.lemmas.List.{get_or-reverse, get_or_default, length-reverse}
+use Rattle.std.proofs.lemmas.List.FromFn.{get_or-enumerate_from, length-enumerate_from}
 use Rattle.rules.specs.Letters.{complement, reverse_complement}
 use Rattle.rules.proofs.Strands.{turned_length}
 
@@ -59,3 +63,20 @@ turning_end {s} {old} {out} {n} v h =
     let e : n ≡ length s = omega arith in
     let z : length s - length s ≡ 0 = omega arith in
     rw (e, z) at v.front
+
+-- the letter that is read at turn n, from the last one back
+module _ (s : List ℕ) (n : ℕ) {i x : ℕ} (h : (n < length (enumerate_from 0 (reverse s))) × (◌≡◌ {A = ℕ × ℕ} (i, x) (get_or (enumerate_from 0 (reverse s)) n (i, x)))) where
+  pub turn_in : n < length s
+  turn_in = omega (arith, h.0, length-enumerate_from 0 (reverse s), length-reverse s)
+
+  turn_is : ◌≡◌ {A = ℕ × ℕ} (i, x) (n, get_or (reverse s) n x)
+  turn_is = h.1 ∙ get_or-enumerate_from 0 (reverse s) n (i, x) (omega (arith, turn_in, length-reverse s)) ∙ ap (λ (k : ℕ). (k, get_or (reverse s) n x)) (zero-add n)
+
+  pub turn_index : i ≡ n
+  turn_index = ap (λ (p : ℕ × ℕ). p.0) turn_is
+
+  pub turn_letter : x ≡ get_or s (length s - 1 - n) 0
+  turn_letter = ap (λ (p : ℕ × ℕ). p.1) turn_is ∙ get_or-reverse s n x turn_in ∙ get_or_default s (length s - 1 - n) x 0 (omega (arith, turn_in))
+
+pub turned_all : (s : List ℕ) {n : ℕ} → n ≡ length (enumerate_from 0 (reverse s)) → length s ≤ n
+turned_all s e = omega (arith, length-enumerate_from 0 (reverse s), length-reverse s)

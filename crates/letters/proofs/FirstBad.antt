@@ -9,8 +9,10 @@ use native.Mathlib.Omega.{arith}
 use lib.Dec.{eqb, leb}
 use lib.ListN.{get_or}
 use borrow.Author.Tests.{eqb-true, eqb-false, leb-true, leb-false}
+use Rattle.std.proofs.Common.{Some, None}
+use Rattle.std.proofs.lemmas.Option.{same_Some}
 use Rattle.rules.specs.Letters.{code_of, bad_from, bad_place}
-use Rattle.letters.specs.FirstBad.{AllCoded, FirstBad}
+use Rattle.letters.specs.FirstBad.{AllCoded, FirstBad, some_place}
 
 -- what a search finds that has passed n letters before s
 data Found (n : ℕ) (s : List ℕ) : Type 0 where
@@ -81,3 +83,15 @@ not_after s p q f g false e =
 -- and there is one first bad place at most
 pub first_unique : (s : List ℕ) (p q : ℕ) → FirstBad s p → FirstBad s q → p ≡ q
 first_unique s p q f g = le_antisymm (not_after s p q f g (leb p q) refl) (not_after s q p g f (leb q p) refl)
+
+-- ---- a place or none, as `letters::bad_place` answers: the number of document 01, told by whether it is 0
+
+pub placed : {n p : ℕ} → Some p ≡ some_place n → (p ≡ n) × (0 < p)
+unfolding some_place
+placed {n = zero} e = cc
+placed {n = suc n} e = let h : ◌≡◌ {A = ℕ} _ _ = same_Some _ _ e in (h, omega arith)
+
+pub unplaced : {n : ℕ} → None ≡ some_place n → n ≡ 0
+unfolding some_place
+unplaced {n = zero} e = refl
+unplaced {n = suc n} e = cc

@@ -1,5 +1,5 @@
 -- What bad_place means, in words of letters and places. Assumes nothing.
-use Rattle.std.specs.Prelude.{◌≡◌, List, ℕ, suc, ◌<◌, length, get_or}
+use Rattle.std.specs.Prelude.{◌≡◌, List, ℕ, zero, suc, ◌<◌, length, get_or, Option, Some, None}
 use Rattle.rules.specs.Letters.{code_of}
 
 -- every letter has a code
@@ -13,3 +13,8 @@ pub record FirstBad (s : List ℕ) (place : ℕ) : Type 0 where
   pub inside : before < length s
   pub bad : code_of (get_or s before 0) ≡ 0
   pub good : (i : ℕ) → i < before → 0 < code_of (get_or s i 0)
+
+-- a place where there is one, which 0 is not
+unfoldable pub some_place : ℕ → Option ℕ
+some_place zero = None
+some_place (suc before) = Some (suc before)

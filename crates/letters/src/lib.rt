@@ -3,7 +3,8 @@
 
 ghost use Rattle.std.specs.Prelude.{◌≡◌, ◌++◌, ◌≤◌, length, drop};
 ghost use Rattle.rules.specs.Letters.{letter_of, read_letter, code_of, bad_place, complement, reverse_complement};
-ghost use Rattle.letters.specs.Capitals.{capital_codes, capital_complements, at_capital};
+ghost use Rattle.letters.specs.Capitals.{at_capital};
+ghost use Rattle.letters.specs.FirstBad.{some_place};
 
 use rules::Letter;
 
@@ -14,7 +15,8 @@ const MASK: u8 = 0x20;
 const UNMASKED: u8 = 0xDF;
 
 // The letter of each code. Code 0 has none.
-const LETTERS: [u8; 16] = [
+// kept: 0 for none, here and in all that is read below: `letter_of`, `code_of`, `read_letter` and `complement` of rules/specs/Letters.antt say so, and the theorems on them.
+static LETTERS: [u8; 16] = [
     0, b'A', // 1
     b'C', // 2
     b'M', // 3
@@ -33,7 +35,7 @@ const LETTERS: [u8; 16] = [
 ];
 
 // The code of each capital from A to Z, 0 where it is none of the fifteen.
-const CODES: [u8; 26] = [
+static CODES: [u8; 26] = [
     1, // A
     14, // B
     2, // C
@@ -63,7 +65,7 @@ const CODES: [u8; 26] = [
 ];
 
 // The complement of each capital from A to Z, 0 where it is none of the fifteen.
-const COMPLEMENTS: [u8; 26] = [
+static COMPLEMENTS: [u8; 26] = [
     b'T', // of A
     b'V', // of B
     b'G', // of C
@@ -96,82 +98,62 @@ const COMPLEMENTS: [u8; 26] = [
 pub fn letter(code: u8) -> u8
     ensures { result ≡ letter_of code }
 {
-    if code < 16 { LETTERS[code as usize] } else { 0 }
+    LETTERS.get(usize::from(code)).copied().unwrap_or(0)
 }
 
 // The code of a byte, masked or not; 0 where it is no letter.
 pub fn code(byte: u8) -> u8
     ensures { result ≡ code_of byte }
 {
-    let codes = CODES;
-    at_capital(&codes, byte & UNMASKED)
+    at_capital(&CODES, byte & UNMASKED)
 }
 
 // A byte as it is read.
 pub fn read_letter(byte: u8) -> Letter
     ensures { result ≡ read_letter byte }
 {
-    let codes = CODES;
-    read_in(&codes, byte)
+    let capital = byte & UNMASKED;
+    if at_capital(&CODES, capital) == 0 {
+        Letter {
+            capital: 0,
+            masked: false,
+        }
+    } else {
+        Letter {
+            capital,
+            masked: capital < byte,
+        }
+    }
 }
 
-// What a table of the capitals from A to Z has for a byte, 0 for one that is none of them. The caller laid the table out: a constant is laid out anew at
-// every read.
+// What a table of the capitals from A to Z has for a byte, 0 for one that is none of them.
 fn at_capital(table: &[u8; 26], byte: u8) -> u8
     ensures { result ≡ at_capital table.now byte }
 {
-    if byte < b'A' {
-        return 0;
+    if byte.is_ascii_uppercase() {
+        table[usize::from(byte - b'A')]
+    } else {
+        0
     }
-    if b'Z' < byte {
-        return 0;
-    }
-    table[(byte - b'A') as usize]
 }
 
-// A byte as it is read, in the table of codes.
-fn read_in(codes: &[u8; 26], byte: u8) -> Letter
-    requires { codes.now ≡ capital_codes }
-    ensures { result ≡ read_letter byte }
+// The first place, counted from 1, whose letter is none of the fifteen.
+pub fn bad_place(s: &[u8]) -> Option<usize>
+    ensures { result ≡ some_place (bad_place s.now) }
 {
-    let capital = byte & UNMASKED;
-    if at_capital(codes, capital) == 0 {
-        return Letter {
-            capital: 0,
-            masked: false,
-        };
-    }
-    Letter {
-        capital,
-        masked: capital < byte,
-    }
+    s.iter()
+        .position(|byte| read_letter(*byte).capital == 0)
+        .map(|passed| passed + 1)
 }
 
-// The first place, counted from 1, whose letter is none of the fifteen; 0 where there is no such place.
-pub fn bad_place(s: &[u8]) -> usize
-    ensures { result ≡ bad_place s.now }
-{
-    let codes = CODES;
-    let mut passed: usize = 0;
-    while passed < s.len() {
-        if read_in(&codes, s[passed]).capital == 0 {
-            return passed + 1;
-        }
-        passed += 1;
-    }
-    0
-}
-
-// The complement of a letter, masked where the letter is; 0 of a byte that is none. Read in the table of complements.
-fn complement_in(complements: &[u8; 26], byte: u8) -> u8
-    requires { complements.now ≡ capital_complements }
+// The complement of a letter, masked where the letter is; 0 of a byte that is none.
+fn complement(byte: u8) -> u8
     ensures { result ≡ complement byte }
 {
-    let turned = at_capital(complements, byte & UNMASKED);
-    if turned == 0 {
-        return 0;
+    match at_capital(&COMPLEMENTS, byte & UNMASKED) {
+        0 => 0,
+        turned => turned | (byte & MASK),
     }
-    turned | (byte & MASK)
 }
 
 // Writes the reverse complement of a sequence, masks kept, in front of a lent slice. One step a letter.
@@ -179,10 +161,7 @@ pub fn reverse_complement(s: &[u8], out: &mut [u8])
     requires { length s.now ≤ length out.old }
     ensures { out.new ≡ reverse_complement s.now ++ drop (length s.now) out.old }
 {
-    let complements = COMPLEMENTS;
-    let mut turned: usize = 0;
-    while turned < s.len() {
-        out[turned] = complement_in(&complements, s[s.len() - 1 - turned]);
-        turned += 1;
+    for (turned, byte) in s.iter().rev().enumerate() {
+        out[turned] = complement(*byte);
     }
 }

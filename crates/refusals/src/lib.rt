@@ -55,11 +55,10 @@ pub fn check_length(sequence: u64, letters: usize) -> Answer
 pub fn check_letters(sequence: u64, s: &[u8]) -> Answer
     ensures { result ≡ given (letter_check sequence s.now ∷ []) }
 {
-    let bad = letters::bad_place(s);
-    if 0 < bad {
-        return answers::refuse(6, sequence, bad as u64);
+    match letters::bad_place(s) {
+        Some(bad) => answers::refuse(6, sequence, bad as u64),
+        None => answers::refuse(0, 0, 0),
     }
-    answers::refuse(0, 0, 0)
 }
 
 // 1 to 6, with 9 and 10 after 4: the first that applies.

@@ -1,14 +1,10 @@
--- The table is the list of the definition, and from 16 on that list has nothing. Assumes nothing.
-use mathlib.Core.Path.{refl, sym}
+-- The table is the list of the definition, and past its end nothing. Assumes nothing.
+use Rattle.std.proofs.Common.{arith}
+use Rattle.std.proofs.lemmas.Grind.{common_steps}
+use Rattle.std.proofs.lemmas.Option.{gets, unwrap_or-slice_get}
 use Rattle.rules.specs.Letters.{letter_of}
-use Rattle.rules.proofs.Letters.{no_letter}
 use Rattle.letters.proofs.letter.Goals as goal
 
-pub returns-then-code-lt16 : goal.returns-then-code-lt16
+pub returns : goal.returns
 unfolding letter_of
-returns-then-code-lt16 c =
-    refl
-
-pub returns-else-code-lt16 : goal.returns-else-code-lt16
-returns-else-code-lt16 c =
-    sym (no_letter c.args.code c.if-code-lt16.false)
+returns c = grind (arith, common_steps, gets, unwrap_or-slice_get)

@@ -1,9 +1,16 @@
--- The table that it lays out is the list of the codes of the capitals. Assumes nothing.
+-- Either way out is right by the rule at this byte. Assumes nothing.
+use borrow.Author.Rules.{rules}
 use mathlib.Core.Path.{refl}
 use Rattle.letters.specs.Capitals.{capital_codes}
+use Rattle.letters.proofs.Capitals.{folded, read_none, read_one}
 use Rattle.letters.proofs.read_letter.Goals as goal
 
-pub read_in-requires : goal.read_in-requires
-unfolding capital_codes
-read_in-requires c =
-    refl
+pub returns-then-at_capital-eq0 : goal.returns-then-at_capital-eq0
+unfolding folded capital_codes
+returns-then-at_capital-eq0 c =
+    read_none {x = c.args.byte} (search rules) refl c.at_capital.ensures c.if-at_capital-eq0.true
+
+pub returns-else-at_capital-eq0 : goal.returns-else-at_capital-eq0
+unfolding folded capital_codes
+returns-else-at_capital-eq0 c =
+    read_one {x = c.args.byte} (search rules) refl c.at_capital.ensures c.if-at_capital-eq0.false
