@@ -12,7 +12,7 @@ use lib.Seq.{get_or-take, get_or-drop}
 use borrow.Author.Tests.{ltb-true, ltb-false}
 use Rattle.rules.specs.Places.{base_of, all_bases, letters_at, packed}
 use Rattle.kmers.specs.Reading.{first_break, read_place, BreaksAt}
-use Rattle.kmers.specs.declared.Kmer.TheVariants.{Code, Break}
+use Rattle.kmers.specs.Reading.{Code, Break}
 use Rattle.kmers.proofs.Tests.{le_or_lt}
 use Rattle.kmers.proofs.Standing.{letters_most, code_not_break}
 

@@ -12,8 +12,7 @@ use lib.Seq.{drop-cons}
 use borrow.Author.Tests.{lt-ltb, le-ltb}
 use Rattle.rules.specs.Places.{base_of, all_bases, letters_at, pack_on, packed}
 use Rattle.kmers.specs.Reading.{first_break, read_place}
-use Rattle.kmers.specs.declared.Kmer.{Kmer}
-use Rattle.kmers.specs.declared.Kmer.TheVariants.{Code, Break}
+use Rattle.kmers.specs.Reading.{Kmer, Code, Break}
 use Rattle.kmers.proofs.Packing.{pow_two}
 
 -- what is read of letters that stand from `place` on, after bases that n packs

@@ -10,7 +10,7 @@ use lib.ListN.{length, take, drop, length-take}
 use borrow.Author.Tests.{le-leb}
 use Rattle.rules.specs.Places.{places, all_bases, letters_at, kmer_at, packed}
 use Rattle.kmers.specs.Reading.{first_break, read_place}
-use Rattle.kmers.specs.declared.Kmer.TheVariants.{Code, Break}
+use Rattle.kmers.specs.Reading.{Code, Break}
 
 pub kmer_inside : (k : ℕ) (s : List ℕ) (place : ℕ) → 1 ≤ place → place ≤ places k s
     → kmer_at k s place ≡ cond (all_bases (letters_at k s place)) (some (letters_at k s place)) none

@@ -5,15 +5,12 @@ ghost use Rattle.std.specs.Prelude.{◌≡◌, cond, ◌++◌, suc, ◌+◌, ◌
 ghost use Rattle.rules.specs.Letters.{stands_for, as_read};
 ghost use Rattle.rules.specs.Places.{places as places_in, base_of};
 ghost use Rattle.rules.specs.Codes.{codes};
-ghost use Rattle.kmers.specs.Reading.{sees_of, read_place};
+ghost use Rattle.kmers.specs.Reading.{sees_of, read_place, some_base, as_result};
 
-// What stands at a place.
-#[derive(Drop)]
-pub enum Kmer {
-    // a k-mer, packed
-    Code(u64),
-    // none: the first place whose letter is no base
-    Break(usize),
+// Why no k-mer stands at a place: the first place whose letter is no base.
+#[derive(Clone, Copy, Debug, PartialEq, Eq)]
+pub struct Broken {
+    pub place: usize,
 }
 
 // How many places a sequence of so many letters has. The clause bars only the greatest length with k = 0, whose answer fits no word.
@@ -27,23 +24,33 @@ pub fn places(letters: usize, k: usize) -> usize
 // The letters A, C, G and T, the first lowest.
 const ACGT: u32 = 0x5447_4341;
 
-// The bits of a letter that are looked at: where masked letters form k-mers, all but the one that lower case has.
-fn sees(mask: u32) -> u8
-    ensures { result ≡ sees_of mask }
-{
-    if mask == 0 { 0xDF } else { 0xFF }
+// How letters are read under a mask setting: the bits of each that are looked at. Where masked letters form k-mers, these are all but the one that lower
+// case has.
+#[derive(Clone, Copy)]
+struct Reader {
+    mask: u32,
+    sees: u8,
+    ghost looks: { sees ≡ sees_of mask },
 }
 
-// The two bits of the base that a letter stands for, 4 where it is none. Bits 1 and 2 of the four letters tell them apart, and each compared with the bit
-// above it they count A, C, G and T from 0 to 3; so no jump depends on which base it is.
-fn base(letter: u8, mask: u32, sees: u8) -> u64
-    requires { sees ≡ sees_of mask }
-    ensures { result ≡ base_of (stands_for mask letter) }
-{
-    let seen = letter & sees;
-    let two = ((seen >> 1) ^ (seen >> 2)) & 3;
-    let expected = ((ACGT >> (8 * two)) & 255) as u8;
-    if seen == expected { two as u64 } else { 4 }
+impl Reader {
+    fn new(mask: u32) -> Reader
+        ensures { result.mask ≡ mask }
+    {
+        let sees = if mask == 0 { 0xDF } else { 0xFF };
+        Reader { mask, sees }
+    }
+
+    // The two bits of the base that a letter stands for. Bits 1 and 2 of the four letters tell them apart, and each compared with the bit above it they
+    // count A, C, G and T from 0 to 3; so no jump depends on which base it is.
+    fn base(&self, letter: u8) -> Option<u64>
+        ensures { result ≡ some_base (base_of (stands_for self.now.mask letter)) }
+    {
+        let seen = letter & self.sees;
+        let two = ((seen >> 1) ^ (seen >> 2)) & 3;
+        let expected = ((ACGT >> (8 * two)) & 255) as u8;
+        (seen == expected).then_some(u64::from(two))
+    }
 }
 
 // One more base, below those that are there.
@@ -81,26 +88,25 @@ fn slot(code: u64, run: usize, k: usize) -> u64
     if k <= run { code + 1 } else { 0 }
 }
 
-// The k-mer at a place, or the place that breaks it.
-pub fn read_place(s: &[u8], k: usize, mask: u32, place: usize) -> Kmer
+// The k-mer at a place, packed, or the place that breaks it.
+pub fn read_place(s: &[u8], k: usize, mask: u32, place: usize) -> Result<u64, Broken>
     requires k_bound { k ≤ 31 }
     requires le_place { 1 ≤ place }
     requires k_in_bounds { place + k ≤ length s.now + 1 }
-    ensures { result ≡ read_place k (as_read mask s.now) place }
+    ensures { result ≡ as_result (read_place k (as_read mask s.now) place) }
 {
-    let sees = sees(mask);
-    let mut code: u64 = 0;
-    let mut read: usize = 0;
-    while read < k {
-        let b = base(s[place - 1 + read], mask, sees);
-        if 4 <= b {
+    let reader = Reader::new(mask);
+    let first = place - 1;
+    let letters = &s[first..first + k];
+    let mut code = 0;
+    for (read, letter) in letters.iter().enumerate() {
+        let Some(b) = reader.base(*letter) else {
             let broken = place + read;
-            return Kmer::Break(broken);
-        }
+            return Err(Broken { place: broken });
+        };
         code = push(code, b);
-        read += 1;
     }
-    Kmer::Code(code)
+    Ok(code)
 }
 
 // The codes of all places, in one pass: a step a letter, whatever k is.
@@ -111,24 +117,20 @@ pub fn fill_codes(s: &[u8], k: usize, mask: u32, out: &mut [u64])
     ensures { out.new ≡ codes k (as_read mask s.now) ++ drop (places_in k s.now) out.old }
 {
     let bits = bits_of(k);
-    let sees = sees(mask);
-    let mut code: u64 = 0;
+    let reader = Reader::new(mask);
+    let mut code = 0;
     // how many letters up to here are bases, with no other between them
-    let mut run: usize = 0;
-    let mut n: usize = 0;
-    while n < s.len() {
-        let b = base(s[n], mask, sees);
-        if b < 4 {
+    let mut run = 0;
+    for (n, letter) in s.iter().enumerate() {
+        if let Some(b) = reader.base(*letter) {
             code = roll(code, b, k, bits);
             run += 1;
         } else {
             code = 0;
             run = 0;
         }
-        n += 1;
-        if k <= n {
-            let first = n - k;
-            out[first] = slot(code, run, k);
+        if k <= n + 1 {
+            out[n + 1 - k] = slot(code, run, k);
         }
     }
 }
