@@ -5,6 +5,10 @@ use Prim.Native.Nat.{ℕ, suc, ◌+◌, ◌-◌, ◌<◌, ◌≤◌}
 use native.Mathlib.Omega.{arith}
 use native.Mathlib.Numerals.{add-one}
 use lib.ListN.{length, get_or, set, drop, length-append, length-drop, length-reverse, drop_of_length-le}
+use Rattle.std.specs.List.{enumerate_from}
+use Rattle.std.proofs.lemmas.List.{get_or-reverse}
+use Rattle.std.proofs.lemmas.List.FromFn.{length-enumerate_from, get_or-enumerate_from}
+use Rattle.std.proofs.lemmas.Grind.{get_or_default_zero}
 use lib.Seq.{drop-cons, set_at, append_snoc}
 
 -- the last n codes stand in front, the last first
@@ -56,3 +60,16 @@ backwards_end {codes} {old} {out} {n} v h =
     let e : n ≡ length codes = omega (arith, v.within) in
     let z : length codes - length codes ≡ 0 = omega arith in
     rw (e, z) at v.front
+
+-- ---- a loop over the codes from the last to the first, each with its turn
+
+pub code_back : (codes : List ℕ) {n i x : ℕ} → (n < length (enumerate_from 0 (reverse codes))) × ((i, x) ≡ get_or (enumerate_from 0 (reverse codes)) n (i, x))
+    → (n < length codes) × ((i ≡ n) × (x ≡ get_or codes (length codes - 1 - n) 0))
+code_back codes {n} {i} {x} (l, e) =
+    let inside : n < length codes = omega (arith, length-enumerate_from 0 (reverse codes), length-reverse codes) in
+    let lr : n < length (reverse codes) = omega (arith, length-reverse codes) in
+    let first : 0 + n ≡ n = omega arith in
+    let zero_read : get_or codes (length codes - 1 - n) x ≡ get_or codes (length codes - 1 - n) 0 = get_or_default_zero codes (length codes - 1 - n) x (omega arith) in
+    let back = get_or-reverse codes n x inside in
+    let at : (i, x) ≡ (0 + n, get_or (reverse codes) n x) = e ∙ get_or-enumerate_from 0 (reverse codes) n (i, x) lr in
+    (inside, (ap (λ (p : ℕ × ℕ). p.0) at ∙ first, ap (λ (p : ℕ × ℕ). p.1) at ∙ back ∙ zero_read))

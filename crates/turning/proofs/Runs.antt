@@ -2,9 +2,16 @@
 use mathlib.Core.Path.{◌≡◌, refl, sym, ap, subst, subst⁻¹, ◌∙◌}
 use mathlib.Core.List.{List, reverse}
 use mathlib.Core.Logic.{◌⊎◌, inl, inr}
-use Prim.Native.Nat.{ℕ, suc, ◌+◌, ◌-◌, ◌<◌, ◌≤◌}
+use Prim.Native.Nat.{ℕ, zero, suc, ◌+◌, ◌-◌, ◌<◌, ◌≤◌}
 use native.Mathlib.Omega.{arith}
-use lib.ListN.{length, get_or, set, length-set}
+use lib.ListN.{length, get_or, set, length-set, take, drop, length-take, length-drop}
+use Rattle.std.proofs.Common.{Bool, true, false, not, nat_eq, Some, None, get_or-take, add-zero}
+use Rattle.std.proofs.lemmas.List.{get_or-drop}
+use Rattle.std.proofs.lemmas.List.Quantifiers.{position-Some}
+use Rattle.std.proofs.lemmas.Bool.Decides.{nat_tests}
+use Rattle.std.specs.Prelude.{position}
+use Rattle.std.specs.List.{position_or_len}
+use Rattle.std.proofs.lemmas.List.Sums.{fails_before_first}
 use Rattle.rules.specs.Codes.{code_at}
 use Rattle.rules.proofs.Tests.{Three, below, equal, above, three}
 use Rattle.requests.specs.Index.{kmer_places}
@@ -18,33 +25,62 @@ use Rattle.turning.specs.Turning.{RunTo, Within, RunTurned}
 
 -- ---- the end of a run
 
-pub record RunFrom (keys : List ℕ) (from n to : ℕ) : Type 0 where
-  pub some : from < to
-  pub upto : to ≤ n
-  pub same : (q : ℕ) → from ≤ q → q < to → get_or keys q 0 ≡ get_or keys from 0
+-- whether a key is another
+abbrev pub differs : ℕ → ℕ → Bool
+differs key x = not (nat_eq x key)
 
-pub run_start : {keys : List ℕ} {from n : ℕ} → from < n → RunFrom keys from n (from + 1)
-run_start {keys} {from} h =
-    record { some = omega arith; upto = omega arith; same = λ q a b. (let e : q ≡ from = omega arith in ap (λ (m : ℕ). get_or keys m 0) e) }
+-- the first n keys from one on
+abbrev pub keys_from : List ℕ → ℕ → ℕ → List ℕ
+keys_from keys from n = take (n - from) (drop from keys)
 
-module _ {keys : List ℕ} {from n to : ℕ} (w : RunFrom keys from n to) where
-  pub run_next : to < n → get_or keys to 0 ≡ get_or keys from 0 → RunFrom keys from n (to + 1)
-  run_next h e =
+module _ (keys : List ℕ) (from n : ℕ) (some : from < n) (room : n ≤ length keys) where
+  abbrev key : ℕ
+  key = get_or keys from 0
+
+  abbrev left : List ℕ
+  left = keys_from keys from n
+
+  left_length : length left ≡ n - from
+  left_length = omega (arith, length-take {A = ℕ}, length-drop {A = ℕ})
+
+  key_at : (q : ℕ) → from ≤ q → q < n → get_or left (q - from) 0 ≡ get_or keys q 0
+  key_at q a b =
+      let e : from + (q - from) ≡ q = omega arith in
+      get_or-take (n - from) (drop from keys) (q - from) 0 (omega arith) ∙ get_or-drop from keys (q - from) 0 ∙ ap (λ (m : ℕ). get_or keys m 0) e
+
+  same_key : (q : ℕ) → from ≤ q → q < n → differs key (get_or left (q - from) 0) ≡ false → get_or keys q 0 ≡ key
+  same_key q a b h = let e = key_at q a b in grind (arith, nat_tests)
+
+  other_key : (q : ℕ) → from ≤ q → q < n → differs key (get_or left (q - from) 0) ≡ true → get_or keys q 0 ≡ key → ⊥
+  other_key q a b h d = let e = key_at q a b in grind (arith, nat_tests)
+
+  -- the first key does not differ from itself
+  later : (i : ℕ) → (get_or keys (from + i) 0 ≡ key → ⊥) → from < from + i
+  later zero h = absurd (h (ap (λ (m : ℕ). get_or keys m 0) (add-zero from)))
+  later (suc i) h = omega arith
+
+  pub run_found : {i : ℕ} → position (differs key) left ≡ Some i → RunTo keys from n (from + i)
+  run_found {i} e =
+      let (inside, here, before) = position-Some (differs key) left i 0 e in
+      let l : i < n - from = omega (arith, left_length) in
+      let at : from + i - from ≡ i = omega arith in
+      let other : get_or keys (from + i) 0 ≡ key → ⊥ = other_key (from + i) (omega arith) (omega arith) (rw at here) in
       record {
-        some = omega (arith, w.some);
+        some = later i other;
         upto = omega arith;
-        same = λ q a b. either q a b (le_or_lt to q);
+        same = λ q a b. same_key q a (omega arith) (before (q - from) (omega arith));
+        other = λ _. other;
       }
-    where
-      either : (q : ℕ) → from ≤ q → q < to + 1 → (to ≤ q) ⊎ (q < to) → get_or keys q 0 ≡ get_or keys from 0
-      either q a b (inl l) = let d : q ≡ to = omega arith in ap (λ (m : ℕ). get_or keys m 0) d ∙ e
-      either q a b (inr l) = w.same q a l
 
-  pub run_broken : to < n → (get_or keys to 0 ≡ get_or keys from 0 → ⊥) → RunTo keys from n to
-  run_broken h e = record { some = w.some; upto = w.upto; same = w.same; other = λ _. e }
-
-  pub run_over : n ≤ to → RunTo keys from n to
-  run_over h = record { some = w.some; upto = w.upto; same = w.same; other = λ l. absurd (omega arith) }
+  pub run_whole : position (differs key) left ≡ None → RunTo keys from n n
+  run_whole e =
+      let past : length left ≤ position_or_len (differs key) left = grind (arith, nat_tests) in
+      record {
+        some = some;
+        upto = omega arith;
+        same = λ q a b. same_key q a b (fails_before_first (differs key) left (q - from) 0 (omega (arith, left_length)));
+        other = λ l. absurd (omega arith);
+      }
 
 -- ---- a run turned, up to index q
 

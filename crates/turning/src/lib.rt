@@ -13,11 +13,8 @@ pub fn reverse_codes(codes: &[u64], out: &mut [u64])
     requires { length codes.now ≤ length out.old }
     ensures { out.new ≡ reverse codes.now ++ drop (length codes.now) out.old }
 {
-    let n = codes.len();
-    let mut i: usize = 0;
-    while i < n {
-        out[i] = codes[n - 1 - i];
-        i += 1;
+    for (i, code) in codes.iter().rev().enumerate() {
+        out[i] = *code;
     }
 }
 
@@ -28,15 +25,10 @@ fn run_end(keys: &[u64], from: usize, n: usize) -> usize
     ensures { RunTo keys.now from n result }
 {
     let key = keys[from];
-    let mut to = from + 1;
-    while to < n {
-        if keys[to] == key {
-            to += 1;
-        } else {
-            return to;
-        }
+    match keys[from..n].iter().position(|other| *other != key) {
+        Some(length) => from + length,
+        None => n,
     }
-    to
 }
 
 // The places of a run as they count from the last of so many columns, the last first: a turn a place.
@@ -48,10 +40,8 @@ fn turn_run(index: &[u32], from: usize, to: usize, columns: u32, out: &mut [u32]
     requires within { Within index.now columns from to }
     ensures { RunTurned index.now columns from to out.old out.new }
 {
-    let mut q = from;
-    while q < to {
-        out[q] = columns + 1 - index[from + (to - 1 - q)];
-        q += 1;
+    for (q, place) in index[from..to].iter().rev().enumerate() {
+        out[from + q] = columns + 1 - *place;
     }
 }
 
