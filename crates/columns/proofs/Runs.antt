@@ -8,7 +8,8 @@ use native.Mathlib.Omega.{arith}
 use native.Mathlib.Numerals.{add-one}
 use borrow.Author.Tests.{eq-eqb, ne_eqb}
 use lib.Dec.{eqb}
-use lib.ListN.{length, get_or, set, length-set}
+use lib.ListN.{length, get_or, set, length-set, take, length-take}
+use Rattle.std.proofs.Common.{get_or-take}
 use Rattle.rules.specs.Codes.{code_at}
 use Rattle.requests.specs.Index.{kmer_places}
 use Rattle.requests.proofs.Index.{code_inside}
@@ -19,6 +20,20 @@ use Rattle.ownership.proofs.Hits.{hit_at}
 use Rattle.ownership.proofs.Owns.{own_none, is_owner}
 use Rattle.totals.specs.Steps.{Zeros}
 use Rattle.index.specs.Keys.{Indexed}
+
+-- ---- a loop over the first n numbers of an index with their keys: where its turn q stands
+
+pub record Turn (index keys : List ℕ) (n q place key : ℕ) : Type 0 where
+  pub upto : q < n
+  pub place_is : place ≡ get_or index q 0
+  pub key_is : key ≡ get_or keys q 0
+
+pub turn_of : {index keys : List ℕ} {n q place key : ℕ}
+    → (q < length (take n index)) × (q < length keys) × ((d : ℕ) → place ≡ get_or (take n index) q d) × ((d : ℕ) → key ≡ get_or keys q d)
+    → Turn index keys n q place key
+turn_of {index} {keys} {n} {q} {place} {key} t =
+    let l : q < n = omega (arith, t.0, length-take n index) in
+    record { upto = l; place_is = t.2 0 ∙ get_or-take n index q 0 l; key_is = t.3 0 }
 
 -- ---- the loop: after q turns, with the key and the owner that were met last
 

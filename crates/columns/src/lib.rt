@@ -23,15 +23,11 @@ pub fn own_columns(second: &[u64], index: &[u32], keys: &[u64], n: usize, own: &
     requires zeros { Zeros own.old }
     ensures { Owned second.now second.now own.old own.new (length second.now) }
 {
-    let mut q: usize = 0;
     let mut last: u64 = 0;
     let mut owner: u32 = 0;
-    while q < n {
-        let key = keys[q];
-        let place = index[q];
-        owner = run_owner(last, owner, key, place);
-        last = key;
-        own[numbers::wide(place) - 1] = owner;
-        q += 1;
+    for (place, key) in index[..n].iter().zip(keys) {
+        owner = run_owner(last, owner, *key, *place);
+        last = *key;
+        own[*place as usize - 1] = owner;
     }
 }

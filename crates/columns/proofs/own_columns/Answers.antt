@@ -1,32 +1,41 @@
 use native.Mathlib.Omega.{arith}
-use Rattle.columns.proofs.Runs.{Column, column, owning_start, owning_next, owning_end}
+use Rattle.std.proofs.Common.{length, take, length-take, sym}
+use Rattle.std.proofs.lemmas.Slice.Zip.{zip_turn, zip_end}
+use Rattle.std.proofs.lemmas.List.{length-take-le, length_push}
+use Rattle.requests.proofs.IndexPass.{indexed_long}
+use Rattle.columns.proofs.Runs.{Turn, turn_of, column, owning_start, owning_next, owning_end}
 use Rattle.columns.proofs.own_columns.Goals as goal
 
-pub loop-q-init : goal.loop-q-init
-loop-q-init c =
-    owning_start c.requires.indexed
+pub slice_bounds-iter-end : goal.slice_bounds-iter-end
+slice_bounds-iter-end c =
+    let long = indexed_long c.args.second.now c.args.index.now c.requires.indexed.begins in
+    sym (length-take-le c.args.n c.args.index.now (omega (arith, c.requires.n_value)))
 
-pub bounds-index-q : goal.bounds-index-q
-bounds-index-q c =
-    let here : Column c.requires.indexed c.loop-q.q = column c.requires.indexed _ (omega (arith, c.loop-q-test.true, c.requires.n_value)) in
-    here.in_index
+pub loop-place-init : goal.loop-place-init
+loop-place-init c = owning_start c.requires.indexed
 
 pub overflow_sub-own : goal.overflow_sub-own
 overflow_sub-own c =
-    let here : Column c.requires.indexed c.loop-q.q = column c.requires.indexed _ (omega (arith, c.loop-q-test.true, c.requires.n_value)) in
-    omega (arith, c.wide.ensures.0, here.some)
+    let t : Turn c.args.index.now c.args.keys.now c.args.n (length c.loop-place.yielded) c.in-Some.place.now c.in-Some.key.now = turn_of (zip_turn (take c.args.n c.args.index.now) c.args.keys.now c.loop-place.yielded c.into_iter-place-iterator.result c.loop-place.place-iterator c.next.new.self c.next.result (cc) (cc) c.loop-place.yielded_by _ c.in-Some.is c.next.ensures.steps) in
+    let here = column c.requires.indexed (length c.loop-place.yielded) (omega (arith, t.upto, c.requires.n_value)) in
+    omega (arith, t.place_is, here.some)
 
-pub bounds-own-wide : goal.bounds-own-wide
-bounds-own-wide c =
-    let here : Column c.requires.indexed c.loop-q.q = column c.requires.indexed _ (omega (arith, c.loop-q-test.true, c.requires.n_value)) in
-    omega (arith, c.wide.ensures.0, here.some, here.within, c.requires.second_in_bounds, c.loop-q.invariant.long)
+pub bounds-own-place : goal.bounds-own-place
+bounds-own-place c =
+    let t : Turn c.args.index.now c.args.keys.now c.args.n (length c.loop-place.yielded) c.in-Some.place.now c.in-Some.key.now = turn_of (zip_turn (take c.args.n c.args.index.now) c.args.keys.now c.loop-place.yielded c.into_iter-place-iterator.result c.loop-place.place-iterator c.next.new.self c.next.result (cc) (cc) c.loop-place.yielded_by _ c.in-Some.is c.next.ensures.steps) in
+    let here = column c.requires.indexed (length c.loop-place.yielded) (omega (arith, t.upto, c.requires.n_value)) in
+    omega (arith, t.place_is, here.some, here.within, c.requires.second_in_bounds, c.loop-place.invariant.long)
 
-pub loop-q-preserved : goal.loop-q-preserved
-loop-q-preserved c =
-    let here : Column c.requires.indexed c.loop-q.q = column c.requires.indexed _ (omega (arith, c.loop-q-test.true, c.requires.n_value)) in
-    owning_next c.requires.indexed c.loop-q.invariant (omega (arith, c.loop-q-test.true, c.requires.n_value)) (omega (arith, c.wide.ensures.0, here.some))
-    (omega (arith, c.wide.ensures.0, here.some, here.within, c.requires.second_in_bounds, c.loop-q.invariant.long)) c.run_owner-owner.ensures
+pub loop-place-preserved : goal.loop-place-preserved
+loop-place-preserved c =
+    let t : Turn c.args.index.now c.args.keys.now c.args.n (length c.loop-place.yielded) c.in-Some.place.now c.in-Some.key.now = turn_of (zip_turn (take c.args.n c.args.index.now) c.args.keys.now c.loop-place.yielded c.into_iter-place-iterator.result c.loop-place.place-iterator c.next.new.self c.next.result (cc) (cc) c.loop-place.yielded_by _ c.in-Some.is c.next.ensures.steps) in
+    let here = column c.requires.indexed (length c.loop-place.yielded) (omega (arith, t.upto, c.requires.n_value)) in
+    rw (length_push c.loop-place.yielded (c.in-Some.place, c.in-Some.key), t.key_is)
+    (owning_next c.requires.indexed c.loop-place.invariant (omega (arith, t.upto, c.requires.n_value)) (omega (arith, t.place_is, here.some))
+    (omega (arith, t.place_is, here.some, here.within, c.requires.second_in_bounds, c.loop-place.invariant.long)) (rw (t.key_is, t.place_is) at c.run_owner-owner.ensures))
 
 pub returns : goal.returns
 returns c =
-    owning_end c.requires.indexed c.loop-q.invariant (omega (arith, c.loop-q-test.false, c.requires.n_value)) c.requires.zeros
+    let e = zip_end (take c.args.n c.args.index.now) c.args.keys.now c.loop-place.yielded c.into_iter-place-iterator.result c.loop-place.place-iterator c.next.new.self c.next.result (cc) (cc) c.loop-place.yielded_by c.in-None.is c.next.ensures.steps in
+    let long = indexed_long c.args.second.now c.args.index.now c.requires.indexed.begins in
+    owning_end c.requires.indexed c.loop-place.invariant (omega (arith, e, length-take c.args.n c.args.index.now, c.requires.n_value, c.requires.indexed.long)) c.requires.zeros
