@@ -42,6 +42,10 @@ module _ {nexts : List ℕ} (safe : NextsSafe nexts) where
           rw back (ap (λ (r : List ℕ). suc p ∷ r) (steps_same n (suc n) (get_or nexts p 0) (safe.inside p)
           (λ k. omega (arith, safe.rising p k)) (λ k. omega (arith, safe.rising p k))))
 
+  -- so that fewer columns are left
+  pub row_less : (j : ℕ) → 1 ≤ j → j ≤ length nexts → length (row_from nexts (get_or nexts (j - 1) 0)) < length (row_from nexts j)
+  row_less j h l = omega (arith, ap length (row_next j h l))
+
   -- a walk rises: no column before x is on the walk from x
   early : (f x q : ℕ) → (1 ≤ x → q < x) → any_of (eqb q) (walk nexts f x) ≡ false
   unfolding walk any_of

@@ -1,6 +1,6 @@
 -- What a sweep needs to know of firsts and nexts, for any test of which cells are matches: from column to column they lead to the next
 -- match of the row. And the matches that any walks come to. Assumes nothing.
-use Rattle.std.specs.Prelude.{◌≡◌, Bool, true, false, List, [], ◌∷◌, ℕ, zero, suc, ◌-◌, ◌<◌, ◌≤◌, eqb, length, get_or}
+use Rattle.std.specs.Prelude.{◌≡◌, Bool, true, false, List, [], ◌∷◌, ℕ, zero, suc, ◌-◌, ◌<◌, ◌≤◌, eqb, length, get_or, Option, MatchOption}
 use Rattle.rules.specs.declared.Cell.{Cell}
 use Rattle.rules.specs.Lists.{any_of}
 use Rattle.rules.specs.Matches.{cell, matches_to}
@@ -26,6 +26,10 @@ walk nexts (suc fuel) (suc j) = suc j ∷ walk nexts fuel (get_or nexts j 0)
 unfoldable pub row_from : List ℕ → ℕ → List ℕ
 unfolding walk
 row_from nexts x = walk nexts (length nexts) x
+
+-- a step of a row in column x: it ends at 0, and else gives x, behind which comes column x'
+abbrev pub Steps : List ℕ → ℕ → Option ℕ → ℕ → Type 0
+Steps nexts x r x' = MatchOption r (x ≡ 0) (λ j. (j ≡ x) × (1 ≤ x) × (x' ≡ get_or nexts (x - 1) 0))
 
 -- column j is one of them
 unfoldable pub on_walk : List ℕ → ℕ → ℕ → Bool

@@ -7,6 +7,10 @@ ghost use Rattle.ownership.specs.Owners.{Owned};
 ghost use Rattle.nexts.specs.Nexts.{NextColumns};
 ghost use Rattle.matches.specs.Columns.{FirstColumns};
 
+mod walk;
+
+pub use walk::{Columns, Walk};
+
 // The first column of every row and the next of every column, once every column's owner is in own and every row's in firsts: a turn a column and one or
 // two a row. The local arrays hold places, and how often a k-mer occurs, and nothing else.
 pub fn finish_matches(

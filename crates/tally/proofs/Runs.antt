@@ -20,6 +20,10 @@ pub run_few : (b : ℕ) (cells : List Cell) (rows : ℕ) → largest_run b cells
 unfolding largest_run
 run_few b cells rows = largest_to_le (λ i. count (in_run b i) cells) (length cells) rows (λ i. count_length (in_run b i) cells)
 
+-- the size of a row that is asked for by its columns
+pub row_is : {nexts nexts' : List ℕ} {x x' size : ℕ} → nexts' ≡ nexts → x' ≡ x → size ≡ length (row_from nexts' x') → size ≡ length (row_from nexts x)
+row_is en ex e = e ∙ λ i. length (row_from (en i) (ex i))
+
 module _ {firsts nexts : List ℕ} (safe : WalkSafe firsts nexts) where
   -- ---- the first rows, one after the other
 

@@ -1,11 +1,13 @@
-use mathlib.Core.Path.{◌≡◌, ap, ◌∙◌}
+use Prim.Native.Nat.{ℕ, ◌+◌, ◌^◌, ◌≤◌, ◌<◌, max}
+use Rattle.std.specs.Ordering.{ord_max, nat_cmp}
+use Rattle.std.proofs.lemmas.Grind.{common_steps}
+use mathlib.Core.Path.{◌≡◌}
 use mathlib.Core.List.{List}
-use Prim.Native.Nat.{ℕ, ◌+◌, ◌^◌, ◌≤◌, ◌<◌}
 use native.Mathlib.Omega.{arith}
 use lib.ListN.{length}
 use Rattle.matches.specs.Walks.{row_from, WalkSafe}
 use Rattle.matches.proofs.Walked.{row_few, walked_few}
-use Rattle.tally.proofs.Runs.{RunLoop, run_start, run_next, run_end}
+use Rattle.tally.proofs.Runs.{RunLoop, row_is, run_start, run_next, run_end}
 use Rattle.tally.proofs.count_matches.Goals as goal
 
 -- no sum of the matches so far and one row's comes near a word
@@ -19,22 +21,25 @@ rows_fit {nexts = nexts} {p = p} size start safe v e =
 
 pub loop-p-init : goal.loop-p-init
 loop-p-init c =
-    run_start c.requires
+    run_start c.args.walk.safe
 
 pub overflow_add-matches : goal.overflow_add-matches
 overflow_add-matches c =
-    omega (arith, rows_fit _ c.wide.result c.requires c.loop-p.invariant c.row_size-size.ensures)
+    omega (arith, rows_fit _ _ c.args.walk.safe c.loop-p.invariant (row_is c.row.ensures.nexts c.row.ensures.begins c.row_size-size.ensures))
 
 pub overflow_add-run : goal.overflow_add-run
 overflow_add-run c =
-    omega (arith, rows_fit _ c.wide.result c.requires c.loop-p.invariant c.row_size-size.ensures)
+    omega (arith, rows_fit _ _ c.args.walk.safe c.loop-p.invariant (row_is c.row.ensures.nexts c.row.ensures.begins c.row_size-size.ensures))
+
+-- `max` of numbers
+max_is : (x y r : ℕ) → r ≡ ord_max nat_cmp x y → r ≡ max x y
+max_is x y r e = grind (arith, common_steps)
 
 pub loop-p-preserved : goal.loop-p-preserved
 loop-p-preserved c =
-    let size = c.row_size-size.ensures ∙ ap (λ (n : ℕ). length (row_from c.args.nexts.now n)) c.wide.ensures.0 in
-    run_next c.requires c.loop-p.invariant _ c.loop-p-test.true size c.leaving.ensures
-    c.minus-run.ensures c.larger-widest.ensures
+    run_next c.args.walk.safe c.loop-p.invariant _ (omega arith) (row_is c.row.ensures.nexts c.row.ensures.begins c.row_size-size.ensures) c.leaving.ensures
+    c.saturating_sub-run.ensures (max_is _ _ _ c.max-widest.ensures)
 
 pub returns : goal.returns
 returns c =
-    run_end c.requires c.loop-p.invariant c.loop-p-test.false
+    run_end c.args.walk.safe c.loop-p.invariant (omega arith)

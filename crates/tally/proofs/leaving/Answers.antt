@@ -1,12 +1,11 @@
 -- `tally::leaving` meets its contract: up to row b + 1 no row leaves the run, and then row p - b does, with the size walked. Assumes nothing.
-use mathlib.Core.Path.{ap, ◌∙◌}
-use Prim.Native.Nat.{ℕ}
-use lib.ListN.{length}
-use Rattle.matches.specs.Walks.{row_from}
-use Rattle.tally.proofs.Runs.{leaves_row}
+use Rattle.tally.proofs.Runs.{row_is, leaves_row, leaves_none}
 use Rattle.tally.proofs.leaving.Goals as goal
 
-pub returns : goal.returns
-returns c =
-    let size = c.row_size.ensures ∙ ap (λ (n : ℕ). length (row_from c.args.nexts.now n)) c.wide.ensures.0 in
-    leaves_row c.requires.walk_safe c.if-p-b.false c.requires.p_in_bounds size
+pub returns-in-Some : goal.returns-in-Some
+returns-in-Some c =
+    let e = c.in-Some.ensures in
+    leaves_row c.args.walk.safe e.0 c.requires (row_is e.1 e.2 c.row_size.ensures)
+
+pub returns-in-None : goal.returns-in-None
+returns-in-None c = leaves_none c.args.walk.safe c.in-None.ensures

@@ -1,20 +1,12 @@
-use native.Mathlib.Omega.{arith}
-use Rattle.tally.proofs.Walks.{come_less}
-use Rattle.tally.proofs.RowSizes.{size_few, size_next, size_end}
+-- `tally::row_size` meets its contract: the columns that are counted are those of the row. Assumes nothing.
+use Rattle.std.proofs.Common.{inl, arith}
+use Rattle.std.proofs.lemmas.Iterator.Consumers.{count_from_yields_List}
+use Rattle.matches.proofs.Walked.{row_few}
+use Rattle.matches.proofs.Stepping.{columns_listed}
 use Rattle.tally.proofs.row_size.Goals as goal
 
-pub overflow_add-size : goal.overflow_add-size
-overflow_add-size c =
-    omega (arith, size_few c.loop-j.invariant)
-
-pub loop-j-smaller : goal.loop-j-smaller
-loop-j-smaller c =
-    rw c.wide-j.ensures.0 (come_less c.args.nexts.now c.requires.nexts_safe c.loop-j.j (omega arith) c.loop-j.invariant.inside)
-
-pub loop-j-preserved : goal.loop-j-preserved
-loop-j-preserved c =
-    rw c.wide-j.ensures.0 (size_next c.loop-j.invariant c.requires.nexts_safe (omega arith))
+pub count-requires-clause-fits : goal.count-requires-clause-fits
+count-requires-clause-fits c = inl (omega (arith, row_few c.args.columns.nexts.now c.args.columns.at, c.args.columns.safe.few_columns))
 
 pub returns : goal.returns
-returns c =
-    size_end c.loop-j.invariant (omega arith)
+returns c = count_from_yields_List c.args.columns c.count.result c.count.ensures.ran (columns_listed c.args.columns)

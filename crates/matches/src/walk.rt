@@ -1,0 +1,73 @@
+// A strand's matches as walks over columns: row p + 1 begins in column firsts[p], and after column j comes column nexts[j - 1]; 0 ends a row.
+ghost use Rattle.std.specs.Prelude.{◌≡◌, ◌-◌, ◌<◌, ◌≤◌, length, slice_index, MatchOption};
+ghost use Rattle.std.specs.Iterator.{item_count};
+ghost use Rattle.matches.specs.Walks.{row_from, Steps, NextsSafe, WalkSafe};
+
+// The matches of a strand. Rows and columns are few, and each step of a walk is to a later column.
+#[derive(Clone, Copy)]
+pub struct Walk<'a> {
+    // the first column of each row, 0 where it has no match
+    pub firsts: &'a [u32],
+    // behind each column the next one of its row, 0 where there is none
+    pub nexts: &'a [u32],
+    pub ghost safe: { WalkSafe firsts.now nexts.now },
+}
+
+impl<'a> Walk<'a> {
+    // How many rows there are.
+    pub fn rows(self) -> usize
+        ensures { result ≡ length self.entry.firsts.now }
+    {
+        self.firsts.len()
+    }
+
+    // The columns of row p + 1.
+    pub fn row(self, p: usize) -> Columns<'a>
+        requires { p < length self.firsts.now }
+        ensures nexts { result.nexts.now ≡ self.entry.nexts.now }
+        ensures begins { result.at ≡ slice_index self.entry.firsts.now p }
+    {
+        Columns {
+            nexts: self.nexts,
+            at: self.firsts[p] as usize,
+        }
+    }
+
+    // The columns of the row that leaves the run of b rows when row p + 1 enters it: those of row p - b, where there is one.
+    pub fn leaving(self, b: usize, p: usize) -> Option<Columns<'a>>
+        requires { p < length self.firsts.now }
+        ensures { MatchOption result (p ≤ b) (λ row. (b < p) × (row.nexts.now ≡ self.entry.nexts.now) × (row.at ≡ slice_index self.entry.firsts.now (p - b - 1))) }
+    {
+        if p <= b {
+            None
+        } else {
+            Some(self.row(p - b - 1))
+        }
+    }
+}
+
+// The columns of a row from column `at` on, one after the other.
+#[derive(Clone, Copy)]
+pub struct Columns<'a> {
+    pub nexts: &'a [u32],
+    pub at: usize,
+    pub ghost safe: { NextsSafe nexts.now },
+    pub ghost inside: { at ≤ length nexts.now },
+}
+
+impl<'a> Iterator for Columns<'a> {
+    type Item = usize;
+
+    ghost next_gives = { λ s r t. (t.nexts.now ≡ s.nexts.now) × Steps s.nexts.now s.at r t.at };
+
+    ghost remaining = { item_count (λ s. row_from s.nexts.now s.at) };
+
+    fn next(&mut self) -> Option<usize> {
+        if self.at == 0 {
+            return None;
+        }
+        let j = self.at;
+        self.at = self.nexts[j - 1] as usize;
+        Some(j)
+    }
+}
