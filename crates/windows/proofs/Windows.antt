@@ -1,23 +1,26 @@
 -- The sum over a window of columns: how it moves from one column to another, and with one count more or less. Sums are told modulo 2 ^ 32, so that
 -- nothing need be known of the counts. Assumes nothing.
-use Rattle.std.proofs.Common.{◌≡◌, ℕ, zero, suc, ◌+◌, ◌-◌, ◌%◌, ◌^◌, ◌<◌, ◌≤◌, true, false, cond, ◌≢◌, List, length, get_or, set, replicate, sym, refl, ap, ◌∙◌, arith, length-set, get_or-set_other, get_or-set_same}
+use Rattle.std.proofs.Common.{◌≡◌, ℕ, zero, suc, ◌+◌, ◌-◌, ◌%◌, ◌^◌, ◌<◌, ◌≤◌, true, false, cond, ◌≢◌, List, length, get_or, set, replicate, sym, refl, ap, ◌∙◌, arith, length-set, get_or-set_other, get_or-set_same, take, drop, length-drop, add-one}
+use Rattle.std.specs.List.{fold}
+use Rattle.std.proofs.lemmas.List.{get_or-drop}
+use Rattle.std.proofs.lemmas.List.Sums.{fold_more}
 use lib.ListN.{length-replicate, get_or-replicate}
 use Rattle.rules.proofs.Tests.{Three, below, equal, above, three, tests, T_true, T_false}
 use Rattle.windows.specs.Windows.{sum_from, window_sum, in_window, WindowHolds}
 
 -- ---- sums
 
-module _ (counts : List ℕ) (lo : ℕ) where
-  pub sum_start : 0 ≡ sum_from counts lo (lo - lo)
-  unfolding sum_from
-  sum_start = let e : lo - lo ≡ 0 = omega arith in rw e
-
-  pub sum_next : (q : ℕ) → lo ≤ q → sum_from counts lo (q - lo) + get_or counts q 0 ≡ sum_from counts lo (q + 1 - lo)
-  unfolding sum_from
-  sum_next q h =
-      let e : q + 1 - lo ≡ suc (q - lo) = omega arith in
-      let f : lo + (q - lo) ≡ q = omega arith in
-      rw (e, f)
+-- added one after the other, modulo 2 ^ 32
+pub fold_sums : (counts : List ℕ) (lo n : ℕ) → lo + n ≤ length counts → fold (λ a x. (a + x) % 2 ^ 32) 0 (take n (drop lo counts)) ≡ sum_from counts lo n % 2 ^ 32
+unfolding sum_from
+fold_sums counts lo zero h = refl
+fold_sums counts lo (suc n) h =
+    let l : n < length (drop lo counts) = omega (arith, length-drop lo counts) in
+    let e = rw add-one at (fold_more (λ (a x : ℕ). (a + x) % 2 ^ 32) 0 (drop lo counts) n 0 l) in
+    e ∙ rw (fold_sums counts lo n (omega arith), get_or-drop lo counts n 0) (mod_next (sum_from counts lo n) (get_or counts (lo + n) 0))
+  where
+    mod_next : (x y : ℕ) → (x % 2 ^ 32 + y) % 2 ^ 32 ≡ (x + y) % 2 ^ 32
+    mod_next x y = omega arith
 
 sum_join : (counts : List ℕ) (lo n m : ℕ) → sum_from counts lo n + sum_from counts (lo + n) m ≡ sum_from counts lo (n + m)
 unfolding sum_from
@@ -64,6 +67,10 @@ mod_more sum new c e = omega arith
 
 mod_less : (sum new v r : ℕ) → new + (v + 1) % 2 ^ 32 ≡ sum + v → (r + 1) % 2 ^ 32 ≡ sum % 2 ^ 32 → r < 2 ^ 32 → r ≡ new % 2 ^ 32
 mod_less sum new v r e f h = omega arith
+
+-- what is taken off and put back
+pub sub_back : (e s : ℕ) → e < 2 ^ 32 → s < 2 ^ 32 → ((e + (2 ^ 32 - s)) % 2 ^ 32 + s) % 2 ^ 32 ≡ e
+sub_back e s h g = omega arith
 
 -- ---- windows
 

@@ -1,11 +1,10 @@
-use Rattle.std.proofs.Common.{arith}
-use Rattle.windows.proofs.Windows.{sum_start, sum_next}
+-- `windows::sum` meets its contract: the counts of a range are added one after the other. Assumes nothing.
+use Rattle.std.proofs.Common.{◌≡◌, ◌+◌, ◌-◌, ◌%◌, ◌^◌, ◌∙◌, arith, rules}
+use Rattle.std.specs.List.{fold, slice_range}
+use Rattle.windows.proofs.Windows.{fold_sums}
 use Rattle.windows.proofs.sum.Goals as goal
 
-pub loop-q-init : goal.loop-q-init
-loop-q-init c =
-    (omega arith, omega arith, omega (arith, sum_start c.args.counts.now c.args.lo))
-
-pub loop-q-preserved : goal.loop-q-preserved
-loop-q-preserved c =
-    (omega arith, omega arith, omega (arith, c.loop-q.invariant.2, c.wrapping_add_u32-total.ensures.value, sum_next c.args.counts.now c.args.lo c.loop-q.q c.loop-q.invariant.0))
+pub returns : goal.returns
+returns c =
+    let e : c.fold.result ≡ fold (λ a x. (a + x) % 2 ^ 32) 0 (slice_range c.args.counts.now c.args.lo c.args.hi) = search rules in
+    e ∙ fold_sums c.args.counts.now c.args.lo (c.args.hi - c.args.lo) (omega (arith, c.told-counts))
