@@ -5,10 +5,10 @@ use mathlib.Core.List.{List, [], ◌∷◌, ◌++◌, append-nil}
 use Prim.Native.Nat.{ℕ, zero, suc, ◌-◌, ◌≤◌, ◌<◌}
 use native.Mathlib.Decide.{le_ind}
 use native.Mathlib.Omega.{arith}
-use lib.ListN.{length, get_or}
+use lib.ListN.{get_or}
 use Rattle.rules.specs.declared.Cell.{Cell}
 use Rattle.rules.specs.Matches.{cell, row_to}
-use Rattle.matches.specs.Walks.{NextMatch, none_left, next_is, RowWalk, NextsSafe}
+use Rattle.matches.specs.Walks.{NextMatch, none_left, next_is, RowWalk}
 
 module _ (hit : Cell → Bool) (i : ℕ) where
   row_miss : (j : ℕ) → hit (cell i (suc j)) ≡ false → row_to hit i (suc j) ≡ row_to hit i j
@@ -48,19 +48,3 @@ module _ (hit : Cell → Bool) (i columns start : ℕ) (nexts : List ℕ) (w : R
   pub walk_end : (p : ℕ) → p ≤ columns → NextMatch hit i columns p 0 → row_to hit i columns ≡ row_to hit i p
   walk_end p h (none_left e f) = row_skip hit i p columns h f
   walk_end p h (next_is l g t f) = absurd (omega arith)
-
--- how many columns a walk in column j may still come to, with j
-unfoldable pub to_come : ℕ → ℕ → ℕ
-to_come columns zero = 0
-to_come columns (suc j) = columns - j
-
-pub come_less : (nexts : List ℕ) → NextsSafe nexts → (j : ℕ) → 1 ≤ j → j ≤ length nexts → to_come (length nexts) (get_or nexts (j - 1) 0) < to_come (length nexts) j
-unfolding to_come
-come_less nexts s zero h g = absurd (omega arith)
-come_less nexts s (suc j) h g =
-    let back : suc j - 1 ≡ j = omega arith in
-    rw back (go (get_or nexts j 0) (s.rising j))
-  where
-    go : (n : ℕ) → (1 ≤ n → suc j < n) → to_come (length nexts) n < length nexts - j
-    go zero r = omega arith
-    go (suc n) r = omega (arith, r (omega arith))

@@ -1,25 +1,28 @@
-use Rattle.std.proofs.Common.{◌≤◌, ◌∙◌, arith}
-use Rattle.tally.proofs.Walks.{come_less}
+use Rattle.std.proofs.Common.{◌≡◌, ◌%◌, ◌^◌, ◌≤◌, ◌∙◌, refl, ap, arith}
+use Rattle.windows.specs.Windows.{window_sum}
 use Rattle.windows.proofs.Windows.{window_more}
 use Rattle.links.proofs.Links.{add_start, add_next, add_end}
 use Rattle.links.proofs.add_row.Goals as goal
 
 pub loop-j-init : goal.loop-j-init
 loop-j-init c =
-    (add_start c.requires.start_in_bounds, c.requires.window_holds)
-
-pub loop-j-smaller : goal.loop-j-smaller
-loop-j-smaller c =
-    rw c.wide-j.ensures.0 (come_less c.args.nexts.now c.requires.nexts_safe c.loop-j.j (omega arith) c.loop-j.invariant.0.inside)
+    let e = c.into_iter-j-iterator.ensures.into_iter_gives in
+    record { steps = ap (λ x. x.nexts.now) e; added = rw e (add_start c.args.row.inside); window_holds = c.requires; same_bound = refl }
 
 pub loop-j-preserved : goal.loop-j-preserved
 loop-j-preserved c =
-    let inside : c.loop-j.j ≤ 16384 = omega (arith, c.loop-j.invariant.0.inside, c.requires.nexts_safe.few_columns) in
-    rw (c.wrapping_add_u32.ensures.value, c.wide-j.ensures.0) (
-      add_next c.loop-j.invariant.0 c.requires.nexts_safe (omega arith) (c.long.ensures.0 ∙ c.slide-window.ensures) c.wrapping_add_u64-total.ensures.value,
-      window_more c.loop-j.counts c.args.b c.loop-j.invariant.1.places c.loop-j.j inside c.slide-window.ensures c.wrapping_add_u32-held.ensures.value,
-    )
+    let v = c.loop-j.invariant in
+    let e = c.in-Some.ensures.steps in
+    let w = c.slide-window.ensures in
+    let inside : c.in-Some.j ≤ 16384 = omega (arith, v.added.inside, c.args.row.safe.few_columns) in
+    let linked : c.from-total.result ≡ window_sum c.loop-j.counts c.args.links.window.b c.loop-j.j-iterator.at % 2 ^ 32 =
+    c.from-total.ensures ∙ w.summed ∙ (λ i. window_sum c.loop-j.counts (v.same_bound i) (e.1.0 i) % 2 ^ 32) in
+    record {
+      steps = e.0 ∙ v.steps;
+      added = rw (e.1.2, e.1.0, v.steps) (add_next v.added c.args.row.safe e.1.1 linked refl);
+      window_holds = rw (w.moved.0, w.moved.1) (window_more c.loop-j.counts c.loop-j.window.b v.window_holds.places c.in-Some.j inside w.summed refl);
+      same_bound = w.moved.0 ∙ v.same_bound;
+    }
 
-pub returns : goal.returns
-returns c =
-    record { row_added = add_end c.loop-j.invariant.0 (omega arith); window_holds_2 = c.loop-j.invariant.1 }
+pub returns-clause-row_added : goal.returns-clause-row_added
+returns-clause-row_added c = add_end c.loop-j.invariant.added c.in-None.ensures.steps.1

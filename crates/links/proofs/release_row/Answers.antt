@@ -1,24 +1,26 @@
-use Rattle.std.proofs.Common.{arith, rules}
-use Rattle.tally.proofs.Walks.{come_less}
+use Rattle.std.proofs.Common.{◌+◌, ◌%◌, ◌^◌, ◌<◌, ◌≡◌, get_or, arith, refl, ap, ◌∙◌}
 use Rattle.windows.proofs.Windows.{window_less}
 use Rattle.links.proofs.Releases.{release_start, release_next, release_end}
 use Rattle.links.proofs.release_row.Goals as goal
 
 pub loop-j-init : goal.loop-j-init
 loop-j-init c =
-    (release_start c.requires.start_in_bounds, c.requires.window_holds)
-
-pub loop-j-smaller : goal.loop-j-smaller
-loop-j-smaller c =
-    rw c.wide-j.ensures.0 (come_less c.args.nexts.now c.requires.nexts_safe c.loop-j.j (omega arith) c.loop-j.invariant.0.inside)
+    let e = c.into_iter-j-iterator.ensures.into_iter_gives in
+    record { steps = ap (λ x. x.nexts.now) e; released = rw e (release_start c.args.row.inside); window_holds = c.requires; same_bound = refl }
 
 pub loop-j-preserved : goal.loop-j-preserved
-loop-j-preserved c = (
-  rw c.wide-j.ensures.0 (release_next c.loop-j.invariant.0 c.requires.nexts_safe (omega arith) c.wrapping_sub_u32.ensures.value (search rules)),
-  window_less c.loop-j.counts c.args.b c.loop-j.invariant.1 c.loop-j.j (omega (arith, c.loop-j.invariant.0.inside, c.requires.nexts_safe.few_columns)) c.wrapping_sub_u32.result
-      c.wrapping_sub_u32.ensures.value c.without-left.ensures (search rules),
-)
+loop-j-preserved c =
+    let v = c.loop-j.invariant in
+    let e = c.in-Some.ensures.steps in
+    let j = c.in-Some.j in
+    let fits : get_or c.loop-j.counts j 0 < 2 ^ 32 = omega arith in
+    let one : ((get_or c.loop-j.counts j 0 + 4294967295) % 2 ^ 32 + 1) % 2 ^ 32 ≡ get_or c.loop-j.counts j 0 = omega arith in
+    record {
+      steps = e.0 ∙ v.steps;
+      released = rw (e.1.2, e.1.0, v.steps) (release_next v.released c.args.row.safe e.1.1 (rw (← e.1.0) one) (omega arith));
+      window_holds = rw (c.without-left.ensures.stays.0, c.without-left.ensures.stays.1) (window_less c.loop-j.counts c.loop-j.left.b v.window_holds j (omega (arith, v.released.inside, c.args.row.safe.few_columns)) _ one c.without-left.ensures.less (omega arith));
+      same_bound = c.without-left.ensures.stays.0 ∙ v.same_bound;
+    }
 
-pub returns : goal.returns
-returns c =
-    record { row_released = release_end c.loop-j.invariant.0 (omega arith); window_holds_2 = c.loop-j.invariant.1 }
+pub returns-clause-row_released : goal.returns-clause-row_released
+returns-clause-row_released c = release_end c.loop-j.invariant.released c.in-None.ensures.steps.1
