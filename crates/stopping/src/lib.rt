@@ -7,6 +7,7 @@ ghost use Rattle.rules.specs.Answers.{left};
 ghost use Rattle.strands.specs.Strands.{Walked};
 ghost use Rattle.stopping.specs.Stopping.{stopped_of, Holds, RingFrom};
 
+use matches::Walk;
 use predecessors::Ring;
 use rules::{Answer, Settings};
 
@@ -57,7 +58,7 @@ fn hold(
         return 0;
     }
     let last = before_run(row, numbers::wide(c.b));
-    let before = tally::matches_before(firsts, nexts, last);
+    let before = tally::matches_before(Walk { firsts, nexts }, last);
     let ring = ring_from(widest, before);
     sweep::hold_run(&firsts[..row], nexts, work, ring, c)
 }
@@ -74,7 +75,7 @@ pub fn stop_matches(
     ensures { left result work.new [] ≡ stopped_of c (walked firsts.now nexts.now) (length firsts.now) work.old row }
 {
     let b = numbers::wide(c.b);
-    let counts = tally::count_matches(firsts, nexts, b);
+    let counts = tally::count_matches(Walk { firsts, nexts }, b);
     let widest = counts.widest;
     let holds = rooms::record_count(work);
     if holds < widest {
@@ -86,6 +87,6 @@ pub fn stop_matches(
         return answers::refuse(19, 0, firsts.len() as u64);
     }
     let held = hold(firsts, nexts, widest, c, work, row);
-    let links = links::count_links(firsts, nexts, b);
+    let links = links::count_links(Walk { firsts, nexts }, b);
     answers::done(held, counts.matches, counts.widest, links)
 }

@@ -9,6 +9,7 @@ ghost use Rattle.rules.specs.Rooms.{pairs};
 ghost use Rattle.rules.specs.Strands.{reverse_numbers};
 ghost use Rattle.strands.specs.Strands.{both_counts, Walked, ListsAs, ListsBoth};
 
+use matches::Walk;
 use predecessors::Ring;
 use rules::Settings;
 use tally::Counts;
@@ -25,8 +26,12 @@ pub fn count_strands(
     requires walk_safe_2 { WalkSafe reverse_firsts.now reverse_nexts.now }
     ensures { result ≡ both_counts b (walked firsts.now nexts.now) (length firsts.now) (walked reverse_firsts.now reverse_nexts.now) (length reverse_firsts.now) }
 {
-    let forward = tally::count_matches(firsts, nexts, b);
-    let reverse = tally::count_matches(reverse_firsts, reverse_nexts, b);
+    let forward = tally::count_matches(Walk { firsts, nexts }, b);
+    let backward = Walk {
+        firsts: reverse_firsts,
+        nexts: reverse_nexts,
+    };
+    let reverse = tally::count_matches(backward, b);
     let matches = forward.matches + reverse.matches;
     let widest = numbers::larger(forward.widest, reverse.widest);
     Counts { matches, widest }
@@ -44,8 +49,12 @@ pub fn link_strands(
     requires walk_safe_2 { WalkSafe reverse_firsts.now reverse_nexts.now }
     ensures { result ≡ pairs b (walked firsts.now nexts.now) + pairs b (walked reverse_firsts.now reverse_nexts.now) }
 {
-    let forward = links::count_links(firsts, nexts, b);
-    let reverse = links::count_links(reverse_firsts, reverse_nexts, b);
+    let forward = links::count_links(Walk { firsts, nexts }, b);
+    let backward = Walk {
+        firsts: reverse_firsts,
+        nexts: reverse_nexts,
+    };
+    let reverse = links::count_links(backward, b);
     std::num::wrapping_add_u64(forward, reverse)
 }
 
