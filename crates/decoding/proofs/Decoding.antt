@@ -1,5 +1,8 @@
 -- Reading a line in pairs of digits: as long as every pair is good, what is ahead has the answer, and what is ahead is still to be stored. Assumes nothing.
-use Rattle.std.proofs.Common.{◌≡◌, ℕ, suc, ◌+◌, ◌*◌, ◌%◌, ◌<◌, ◌≤◌, Bool, true, false, ◌&&◌, eqb, ltb, leb, List, [], ◌∷◌, length, get_or, drop, set, sym, refl, ap, ◌∙◌, arith, length-drop, length-set, drop_of_length-le, drop-cons, ltb-true, le-ltb, lt-ltb, le-leb, leb-true}
+use Rattle.std.proofs.Common.{◌≡◌, ℕ, suc, ◌+◌, ◌-◌, ◌*◌, ◌%◌, ◌<◌, ◌≤◌, Bool, true, false, ◌&&◌, eqb, ltb, leb, Option, Some, None, unwrap_or, IsSome, List, [], ◌∷◌, ◌++◌, length, get_or, take, drop, set, sym, refl, ap, subst, ◌∙◌, arith, length-drop, length-set, drop_of_length-le, drop-cons, ltb-true, le-ltb, lt-ltb, le-leb, leb-true, ne_eqb}
+use Rattle.std.specs.List.{list_all}
+use Rattle.std.proofs.lemmas.List.{take_more, take_all, length-take-le}
+use Rattle.std.proofs.lemmas.Bool.Decides.{nat_tests}
 use lib.ListN.{get_or-append}
 use lib.Seq.{sets}
 use borrow.Author.Tests.{lt-leb}
@@ -27,49 +30,73 @@ two_heads s i h =
 
 -- ---- is it a line
 
+-- some bytes and one behind them: a line feed closes an even count of digits, and nothing else does
+abbrev pub is_digit : ℕ → Bool
+is_digit d = ltb (nibble_of d) 16
+
+digits_last : (a b c d : Bool) → (a && b && (c && d)) ≡ (c && (a && (b && d)))
+digits_last true true c d = refl
+digits_last true false true d = refl
+digits_last true false false d = refl
+digits_last false b true d = refl
+digits_last false b false d = refl
+
+closed_by : (digits : List ℕ) → closed (digits ++ (10 ∷ [])) ≡ (eqb (length digits % 2) 0 && list_all is_digit digits)
+unfolding closed
+closed_by [] = refl
+closed_by (a ∷ []) = and_false (ltb (nibble_of a) 16 && false)
+closed_by (a ∷ b ∷ rest) =
+    let e : length (a ∷ b ∷ rest) % 2 ≡ length rest % 2 = omega arith in
+    rw (e, closed_by rest) (digits_last (is_digit a) (is_digit b) (eqb (length rest % 2) 0) (list_all is_digit rest))
+
+not_closed : (digits : List ℕ) (last : ℕ) → (last ≡ 10 → ⊥) → closed (digits ++ (last ∷ [])) ≡ false
+unfolding closed
+not_closed [] last n = ne_eqb last 10 n
+not_closed (a ∷ []) last n = and_false (ltb (nibble_of a) 16 && ltb (nibble_of last) 16)
+not_closed (a ∷ b ∷ rest) last n = rw (not_closed rest last n) (and_false (ltb (nibble_of a) 16 && ltb (nibble_of b) 16))
+
+one_more : (a b : ℕ) → leb (suc a) (b + 1) ≡ leb a b
+one_more a b = grind (arith, nat_tests)
+
+one_less : (a b : ℕ) → leb (a + 1) (suc b) ≡ leb a b
+one_less a b = grind (arith, nat_tests)
+
+and_and : (a b c : Bool) → (a && (b && c)) ≡ (a && b && c)
+and_and true b c = refl
+and_and false b c = refl
+
 pub line_short : (line : List ℕ) → length line < 7 → is_line line ≡ false
 unfolding is_line
 line_short line h = rw (lt-leb 7 (length line) h)
 
-pub line_long : (line : List ℕ) → 7 ≤ length line → 135 < length line → is_line line ≡ false
-unfolding is_line
-line_long line h g = rw (le-leb 7 (length line) h, lt-leb (length line) 135 g)
+-- a line's digits, and what is behind them
+module _ (line : List ℕ) (some : 1 ≤ length line) where
+  abbrev pub digits_of_line : List ℕ
+  digits_of_line = take (length line - 1) line
 
--- the first i bytes are digits
-pub record Looking (line : List ℕ) (i : ℕ) : Type 0 where
-  pub within : i ≤ length line
-  pub ahead : is_line line ≡ closed (drop i line)
+  parted : line ≡ digits_of_line ++ (get_or line (length line - 1) 0 ∷ [])
+  parted =
+      let h : length line - 1 < length line = omega arith in
+      sym (take_all (length line - 1 + 1) line (omega arith)) ∙ take_more line (length line - 1) 0 h
 
-pub looking_start : (line : List ℕ) → 7 ≤ length line → length line ≤ 135 → Looking line 0
-unfolding is_line
-looking_start line h g = record { within = omega arith; ahead = rw (le-leb 7 (length line) h, le-leb (length line) 135 g) }
+  long : length line ≡ length digits_of_line + 1
+  long = let h : length line - 1 ≤ length line = omega arith in omega (arith, length-take-le (length line - 1) line h)
 
-pub looking_next : (line : List ℕ) (i : ℕ) → i + 1 < length line → nibble_of (get_or line i 0) < 16 → nibble_of (get_or line (i + 1) 0) < 16
-    → Looking line i → Looking line (i + 2)
-unfolding closed
-looking_next line i h a b r = record {
-  within = omega arith;
-  ahead = r.ahead ∙ rw (two_heads line i h) (rw (lt-ltb (nibble_of (get_or line i 0)) 16 a, lt-ltb (nibble_of (get_or line (i + 1) 0)) 16 b));
-}
+  pub no_feed : (get_or line (length line - 1) 0 ≡ 10 → ⊥) → false ≡ is_line line
+  unfolding is_line
+  no_feed n =
+      let e : closed line ≡ false = ap closed parted ∙ not_closed digits_of_line (get_or line (length line - 1) 0) n in
+      rw e (sym (and_false (leb 7 (length line) && leb (length line) 135)))
 
-pub bad_first : (line : List ℕ) (i : ℕ) → i + 1 < length line → 15 < nibble_of (get_or line i 0) → Looking line i → is_line line ≡ false
-unfolding closed
-bad_first line i h b r = r.ahead ∙ rw (two_heads line i h) (rw (le-ltb (nibble_of (get_or line i 0)) 16 b))
-
-pub bad_second : (line : List ℕ) (i : ℕ) → i + 1 < length line → 15 < nibble_of (get_or line (i + 1) 0) → Looking line i → is_line line ≡ false
-unfolding closed
-bad_second line i h b r =
-    r.ahead ∙ rw (two_heads line i h) (rw (le-ltb (nibble_of (get_or line (i + 1) 0)) 16 b, and_false (ltb (nibble_of (get_or line i 0)) 16)))
-
-pub looking_end : (line : List ℕ) (i : ℕ) → i < length line → length line ≤ i + 1 → Looking line i → is_line line ≡ eqb (get_or line i 0) 10
-unfolding closed
-looking_end line i h k r =
-    let l : length line ≤ suc i = omega arith in
-    r.ahead ∙ rw (drop-cons line i 0 h, drop_of_length-le line l)
-
-pub no_feed : (line : List ℕ) (i : ℕ) → length line ≤ i → Looking line i → is_line line ≡ false
-unfolding closed
-no_feed line i h r = r.ahead ∙ rw (drop_of_length-le line h)
+  pub fed : get_or line (length line - 1) 0 ≡ 10
+      → is_line line ≡ (leb 6 (length digits_of_line) && leb (length digits_of_line) 134 && eqb (length digits_of_line % 2) 0 && list_all is_digit digits_of_line)
+  unfolding is_line
+  fed f =
+      let n = length digits_of_line in
+      let e : closed line ≡ (eqb (n % 2) 0 && list_all is_digit digits_of_line) = ap closed parted ∙ rw f (closed_by digits_of_line) in
+      let a : leb 7 (length line) ≡ leb 6 n = ap (λ k. leb 7 k) long ∙ one_more 6 n in
+      let b : leb (length line) 135 ≡ leb n 134 = ap (λ k. leb k 135) long ∙ one_less n 134 in
+      rw (e, a, b) (and_and (leb 6 n && leb n 134) (eqb (n % 2) 0) (list_all is_digit digits_of_line))
 
 -- what a line is
 pub record IsLine (line : List ℕ) : Type 0 where
@@ -110,37 +137,38 @@ pair_at line i h e =
       rest = and_right (ltb a 16 && ltb b 16) (closed (drop (i + 2) line)) t;
     }
 
--- the first n bytes are stored and summed, and the digits from i are still to come
-pub record Decoding (line before bytes : List ℕ) (i n sum : ℕ) : Type 0 where
-  pub at : i ≡ 2 * n
-  pub within : i ≤ length line
+-- a digit that is read is one, as it stands in a closed line
+pub some_half : (r : Option ℕ) (c : ℕ) → unwrap_or r 16 ≡ nibble_of c → nibble_of c < 16 → IsSome r
+some_half None c e h = absurd (omega arith)
+some_half (Some n) c e h = refl
+
+-- the first n bytes are stored and summed, and the digits from 2 * n are still to come
+pub record Decoding (line before bytes : List ℕ) (n sum : ℕ) : Type 0 where
   pub long : length bytes ≡ length before
-  pub ok : closed (drop i line) ≡ true
-  pub stored : sets bytes n (bytes_in (drop i line)) ≡ sets before 0 (bytes_in line)
-  pub counted : n + length (bytes_in (drop i line)) ≡ length (bytes_in line)
+  pub ok : closed (drop (2 * n) line) ≡ true
+  pub stored : sets bytes n (bytes_in (drop (2 * n) line)) ≡ sets before 0 (bytes_in line)
+  pub counted : n + length (bytes_in (drop (2 * n) line)) ≡ length (bytes_in line)
   pub small : sum < 256
-  pub summed : (sum + byte_sum (bytes_in (drop i line))) % 256 ≡ byte_sum (bytes_in line) % 256
+  pub summed : (sum + byte_sum (bytes_in (drop (2 * n) line))) % 256 ≡ byte_sum (bytes_in line) % 256
 
-pub decoding_start : (line bytes : List ℕ) → closed line ≡ true → Decoding line bytes bytes 0 0 0
-decoding_start line bytes h =
-    record { at = refl; within = omega arith; long = refl; ok = h; stored = refl; counted = omega arith; small = omega arith; summed = omega arith }
+pub decoding_start : (line bytes : List ℕ) → closed line ≡ true → Decoding line bytes bytes 0 0
+decoding_start line bytes h = record { long = refl; ok = h; stored = refl; counted = omega arith; small = omega arith; summed = omega arith }
 
-pub decoding_next : (line before bytes : List ℕ) (i n sum byte more : ℕ) → i + 1 < length line
-    → byte ≡ nibble_of (get_or line i 0) * 16 + nibble_of (get_or line (i + 1) 0)
-    → more ≡ (sum + byte) % 256 → Decoding line before bytes i n sum → Decoding line before (set bytes n byte) (i + 2) (n + 1) more
+pub decoding_next : (line before bytes : List ℕ) (n sum byte : ℕ) → 2 * n + 1 < length line
+    → byte ≡ nibble_of (get_or line (2 * n) 0) * 16 + nibble_of (get_or line (2 * n + 1) 0)
+    → Decoding line before bytes n sum → Decoding line before (set bytes n byte) (n + 1) ((sum + byte) % 256)
 unfolding bytes_in byte_sum
-decoding_next line before bytes i n sum byte more h e m r =
-    let u : bytes_in (drop i line) ≡ byte ∷ bytes_in (drop (i + 2) line) = ap bytes_in (two_heads line i h) ∙ rw e in
+decoding_next line before bytes n sum byte h e r =
+    let j : 2 * n + 2 ≡ 2 * (n + 1) = omega arith in
+    let u : bytes_in (drop (2 * n) line) ≡ byte ∷ bytes_in (drop (2 * n + 2) line) = ap bytes_in (two_heads line (2 * n) h) ∙ rw e in
     let k : n + 1 ≡ suc n = omega arith in
     record {
-      at = omega (arith, r.at);
-      within = omega arith;
       long = length-set bytes n byte ∙ r.long;
-      ok = (pair_at line i h r.ok).rest;
-      stored = rw k (rw u at r.stored);
-      counted = omega (arith, ap length u, r.counted);
+      ok = rw (← j) (pair_at line (2 * n) h r.ok).rest;
+      stored = subst (λ (m : ℕ). sets (set bytes n byte) (n + 1) (bytes_in (drop m line)) ≡ sets before 0 (bytes_in line)) j (rw k (rw u at r.stored));
+      counted = rw (← j) (omega (arith, ap length u, r.counted));
       small = omega arith;
-      summed = omega (arith, ap byte_sum u, r.summed);
+      summed = rw (← j) (omega (arith, ap byte_sum u, r.summed));
     }
 
 none_left : (l : List ℕ) → length l ≤ 1 → bytes_in l ≡ []
@@ -149,9 +177,9 @@ none_left [] h = refl
 none_left (a ∷ []) h = refl
 none_left (a ∷ b ∷ l) h = absurd (omega arith)
 
-module _ (line before bytes : List ℕ) (i n sum : ℕ) (h : length line ≤ i + 1) (r : Decoding line before bytes i n sum) where
-  ahead : bytes_in (drop i line) ≡ []
-  ahead = none_left (drop i line) (omega (arith, length-drop i line))
+module _ (line before bytes : List ℕ) (n sum : ℕ) (h : length line ≤ 2 * n + 1) (r : Decoding line before bytes n sum) where
+  ahead : bytes_in (drop (2 * n) line) ≡ []
+  ahead = none_left (drop (2 * n) line) (omega (arith, length-drop (2 * n) line))
 
   pub decoded_bytes : bytes ≡ sets before 0 (bytes_in line)
   decoded_bytes = rw ahead at r.stored

@@ -1,15 +1,14 @@
 -- The four ways out of reading a line, by what was found: it is no line, its length byte is wrong, its check is wrong, or it is a frame. Assumes nothing.
 use Rattle.std.proofs.Common.{◌≡◌, ℕ, ◌+◌, ◌%◌, ◌<◌, ◌≤◌, Bool, true, false, eqb, List, length, get_or, sym, refl, ◌∙◌, arith, eq-eqb, ne_eqb, eqb-true}
 use lib.Seq.{sets}
-use Rattle.decoding.specs.declared.Frame.{Frame}
 use Rattle.decoding.specs.Digits.{is_line, bytes_in}
 use Rattle.lines.specs.Writing.{byte_sum}
-use Rattle.decoding.specs.Reading.{refused_frame, frame_from, frame_in, bytes_left}
+use Rattle.decoding.specs.Reading.{Frame, refused_frame, frame_from, frame_in, bytes_left}
 use Rattle.decoding.proofs.Decoding.{line_parts, bytes_length, byte_at}
 
-pub no_line : (line old : List ℕ) (f : Frame) → is_line line ≡ false → f ≡ refused_frame 20 → (f ≡ frame_in line) × (old ≡ bytes_left line old)
+pub no_line : (line old : List ℕ) → is_line line ≡ false → (refused_frame 20 ≡ frame_in line) × (old ≡ bytes_left line old)
 unfolding frame_in bytes_left
-no_line line old f h e = rw h (e, refl)
+no_line line old h = rw h (refl, refl)
 
 -- a line has 3 to 67 bytes
 pub count_least : (line : List ℕ) → is_line line ≡ true → 3 ≤ length (bytes_in line)
@@ -28,22 +27,22 @@ module _ (line old bytes : List ℕ) (count size sum : ℕ) (ok : is_line line �
   unfolding bytes_left
   left = rw ok stored
 
-  pub length_wrong : (f : Frame) → (size + 3 ≡ count → ⊥) → f ≡ refused_frame 21 → (f ≡ frame_in line) × (bytes ≡ bytes_left line old)
+  pub length_wrong : (size + 3 ≡ count → ⊥) → (refused_frame 21 ≡ frame_in line) × (bytes ≡ bytes_left line old)
   unfolding frame_in frame_from
-  length_wrong f n e =
+  length_wrong n =
       let g : eqb (get_or (bytes_in line) 1 0 + 3) (length (bytes_in line)) ≡ false =
       ne_eqb (get_or (bytes_in line) 1 0 + 3) (length (bytes_in line)) (λ h. n (omega (arith, sized, counted, byte_is 1 (omega arith)))) in
-      (rw (ok, g) e, left)
+      (rw (ok, g), left)
 
   module _ (long : size + 3 ≡ count) where
     length_right : eqb (get_or (bytes_in line) 1 0 + 3) (length (bytes_in line)) ≡ true
     length_right = eq-eqb (get_or (bytes_in line) 1 0 + 3) (length (bytes_in line)) (omega (arith, sized, counted, byte_is 1 (omega arith)))
 
-    pub check_wrong : (f : Frame) → (sum ≡ 0 → ⊥) → f ≡ refused_frame 22 → (f ≡ frame_in line) × (bytes ≡ bytes_left line old)
+    pub check_wrong : (sum ≡ 0 → ⊥) → (refused_frame 22 ≡ frame_in line) × (bytes ≡ bytes_left line old)
     unfolding frame_in frame_from
-    check_wrong f n e =
+    check_wrong n =
         let g : eqb (byte_sum (bytes_in line) % 256) 0 ≡ false = ne_eqb (byte_sum (bytes_in line) % 256) 0 (λ h. n (summed ∙ h)) in
-        (rw (ok, length_right, g) e, left)
+        (rw (ok, length_right, g), left)
 
     pub is_frame : sum ≡ 0 → (record { number = 0; kind = get_or bytes 0 0; size = size } ≡ frame_in line) × (bytes ≡ bytes_left line old)
     unfolding frame_in frame_from

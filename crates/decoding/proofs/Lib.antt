@@ -1,3 +1,4 @@
 pub mod Decoding
 pub mod Frames
 pub mod RoundTrip
+pub mod Unique

@@ -4,8 +4,7 @@ use Rattle.std.specs.Prelude.{◌≡◌, refl, Bool, true, List, [], ◌∷◌, 
 use Rattle.rules.specs.Lists.{text}
 use Rattle.rules.specs.declared.Settings.{Settings}
 use Rattle.rules.specs.Entered.{settings}
-use Rattle.lines.specs.declared.Written.{Written}
-use Rattle.lines.specs.Writing.{fed, written, leaves}
+use Rattle.lines.specs.Writing.{Written, fed, written, leaves}
 use Rattle.payloads.specs.Pieces.{codes_fit}
 use Rattle.kinds.specs.declared.Entry.{Entry}
 use Rattle.kinds.specs.declared.Done.{Done}

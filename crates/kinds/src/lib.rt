@@ -6,17 +6,20 @@ ghost use Rattle.payloads.specs.Numbers.{number_bytes};
 ghost use Rattle.payloads.specs.Pieces.{codes_fit};
 ghost use Rattle.kinds.specs.Kinds.{job_numbers, job_payload, job_fits, entry_payload, entry_fits, done_payload, done_fits, refused_payload, refused_fits};
 
+mod kind;
+
+pub use kind::Kind;
 use rules::Settings;
 
 // The places of a sequence that an entry spans.
-#[derive(Clone, Copy)]
+#[derive(Clone, Copy, Debug, PartialEq, Eq)]
 pub struct Span {
     pub start: u64,
     pub end: u64,
 }
 
 // The five numbers of an entry. Its frame's kind tells its strand.
-#[derive(Clone, Copy)]
+#[derive(Clone, Copy, Debug, PartialEq, Eq)]
 pub struct Entry {
     pub first: Span,
     pub second: Span,
@@ -24,7 +27,7 @@ pub struct Entry {
 }
 
 // What a job that was done comes to.
-#[derive(Clone, Copy)]
+#[derive(Clone, Copy, Debug, PartialEq, Eq)]
 pub struct Done {
     // entries listed
     pub listed: u64,
@@ -37,7 +40,7 @@ pub struct Done {
 }
 
 // Why a job, or an input, was refused. Of an input the sequence is 0 and the detail its line.
-#[derive(Clone, Copy)]
+#[derive(Clone, Copy, Debug, PartialEq, Eq)]
 pub struct Refused {
     pub number: u64,
     pub sequence: u64,
@@ -45,6 +48,7 @@ pub struct Refused {
 }
 
 // Whether each number of a job fits its field: a byte for k and for the strand, two for the others. The mask has none, so that it has to be 0.
+#[tactic(auto, unfolding(crate::specs::Kinds::job_fits))]
 pub fn job_fits(job: Settings) -> bool
     ensures { result ≡ job_fits job }
 {
@@ -60,10 +64,7 @@ pub fn job_fits(job: Settings) -> bool
 pub fn job_size(job: Settings) -> usize
     ensures { result ≡ length (job_payload job) }
 {
-    if job.strand == 0 {
-        return 7;
-    }
-    8
+    if job.strand == 0 { 7 } else { 8 }
 }
 
 // A job's numbers, the strand last.
@@ -71,15 +72,16 @@ pub fn job_bytes(job: Settings) -> [u8; 8]
     ensures { result ≡ job_numbers job ++ number_bytes 1 job.strand }
 {
     let mut payload = [0u8; 8];
-    payloads::put_number(&mut payload, 0, 1, job.k as u64);
-    payloads::put_number(&mut payload, 1, 2, job.b as u64);
-    payloads::put_number(&mut payload, 3, 2, job.a as u64);
-    payloads::put_number(&mut payload, 5, 2, job.m as u64);
-    payloads::put_number(&mut payload, 7, 1, job.strand as u64);
+    payloads::put_number(&mut payload, 0, 1, u64::from(job.k));
+    payloads::put_number(&mut payload, 1, 2, u64::from(job.b));
+    payloads::put_number(&mut payload, 3, 2, u64::from(job.a));
+    payloads::put_number(&mut payload, 5, 2, u64::from(job.m));
+    payloads::put_number(&mut payload, 7, 1, u64::from(job.strand));
     payload
 }
 
 // Whether each number of an entry fits its two bytes.
+#[tactic(auto, unfolding(crate::specs::Kinds::entry_fits))]
 pub fn entry_fits(entry: Entry) -> bool
     ensures { result ≡ entry_fits entry }
 {
@@ -104,6 +106,7 @@ pub fn entry_payload(entry: Entry) -> [u8; 10]
 }
 
 // The link total fits as it is: eight bytes hold it.
+#[tactic(auto, unfolding(crate::specs::Kinds::done_fits))]
 pub fn done_fits(done: Done) -> bool
     ensures { result ≡ done_fits done }
 {
@@ -123,6 +126,7 @@ pub fn done_payload(done: Done) -> [u8; 20]
 }
 
 // Whether each number of a refusal fits its field: a byte for its number and for the sequence, four for the detail.
+#[tactic(auto, unfolding(crate::specs::Kinds::refused_fits))]
 pub fn refused_fits(refused: Refused) -> bool
     ensures { result ≡ refused_fits refused }
 {

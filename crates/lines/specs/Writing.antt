@@ -1,7 +1,8 @@
 -- Document 01, "Frames": "Bytes: kind, payload length, payload, check. The sum of all bytes of a line wraps at 256 to zero.", and what a writer
 -- answers and leaves. Assumes nothing.
-use Rattle.std.specs.Prelude.{ℕ, ◌+◌, ◌-◌, ◌%◌, Bool, cond, ◌&&◌, List, [], ◌∷◌, ◌++◌, length, drop, nat_le}
-use Rattle.lines.specs.declared.Written.{Written}
+use Rattle.std.specs.Prelude.{ℕ, ◌+◌, ◌-◌, ◌%◌, Bool, cond, ◌&&◌, List, [], ◌∷◌, ◌++◌, length, drop, nat_le, Result, Ok, Err}
+use Rattle.lines.specs.declared.error.FrameError.{FrameError}
+use Rattle.lines.specs.Errors.{number_of}
 use Rattle.lines.specs.Digits.{digits_of}
 
 unfoldable pub byte_sum : List ℕ → ℕ
@@ -30,6 +31,16 @@ line_of kind payload = fed (digits_of (frame_of kind payload))
 -- a line is written where its values fit and "the slice is [not] shorter than the line with its line feed"
 unfoldable pub is_written : Bool → List ℕ → List ℕ → Bool
 is_written fits line out = fits && nat_le (length line) (length out)
+
+-- what a writer answers: 0 and the line's length with its line feed, or 27 and length 0
+pub record Written : Type 0 where
+  pub number : ℕ
+  pub length : ℕ
+
+-- the length that a writer gives, or what is wrong, by document 01's numbers
+abbrev pub written_of : Result ℕ FrameError → Written
+written_of (Ok n) = record { number = 0; length = n }
+written_of (Err e) = record { number = number_of e; length = 0 }
 
 -- "It gives 27 and length 0 ..; otherwise it gives 0 and that length"
 unfoldable pub written : Bool → List ℕ → List ℕ → Written

@@ -4,10 +4,14 @@
 ghost use Rattle.std.specs.Prelude.{◌≡◌, ◌+◌, ◌*◌, ◌/◌, ◌%◌, ◌<◌, ◌≤◌, [], ◌∷◌, length, nat_le};
 ghost use Rattle.std.proofs.lemmas.List.Edits.{sets};
 ghost use Rattle.lines.specs.Digits.{digit_of, digits_of};
-ghost use Rattle.lines.specs.Writing.{byte_sum, check_of, line_of, written, leaves};
+ghost use Rattle.lines.specs.Writing.{byte_sum, check_of, line_of, written, written_of, leaves};
+
+mod error;
+
+pub use error::FrameError;
 
 // A byte as its two four-bit halves.
-#[derive(Drop)]
+#[derive(Clone, Copy, Debug, PartialEq, Eq)]
 pub struct Halves {
     pub high: u8,
     pub low: u8,
@@ -46,21 +50,15 @@ fn digit(half: u8) -> u8
 fn sum(bytes: &[u8]) -> u8
     ensures { result ≡ byte_sum bytes.now % 256 }
 {
-    let mut acc: u8 = 0;
-    let mut i: usize = 0;
-    while i < bytes.len() {
-        acc = std::num::wrapping_add_u8(acc, bytes[i]);
-        i += 1;
-    }
-    acc
+    bytes.iter().fold(0, |acc, byte| acc.wrapping_add(*byte))
 }
 
 // The check byte: it brings the sum of the line's bytes to zero.
 fn check(kind: u8, size: u8, payload: &[u8]) -> u8
     ensures { result ≡ check_of (kind ∷ size ∷ payload.now) }
 {
-    let head = std::num::wrapping_add_u8(kind, size);
-    std::num::wrapping_sub_u8(0, std::num::wrapping_add_u8(head, sum(payload)))
+    let head = kind.wrapping_add(size);
+    0u8.wrapping_sub(head.wrapping_add(sum(payload)))
 }
 
 // A byte's two digits, high first, at a place of the slice.
@@ -78,37 +76,22 @@ fn put_bytes(bytes: &[u8], out: &mut [u8], at: usize)
     requires { at + 2 * length bytes.now ≤ length out.old }
     ensures { out.new ≡ sets out.old at (digits_of bytes.now) }
 {
-    let mut i: usize = 0;
-    while i < bytes.len() {
-        put_byte(bytes[i], out, at + 2 * i);
-        i += 1;
+    for (i, byte) in bytes.iter().enumerate() {
+        put_byte(*byte, out, at + 2 * i);
     }
 }
 
-// What a writer answers: 0 and the line's length with its line feed, or 27 and length 0.
-#[derive(Drop)]
-pub struct Written {
-    pub number: u64,
-    pub length: usize,
-}
-
-// Writes a frame's line. A line has at most 64 bytes of payload.
-pub fn write_line(kind: u8, payload: &[u8], out: &mut [u8]) -> Written
-    ensures value { result ≡ written (nat_le (length payload.now) 64) (line_of kind payload.now) out.old }
+// Writes a frame's line and gives its length with its line feed. A line has at most 64 bytes of payload.
+pub fn write_line(kind: u8, payload: &[u8], out: &mut [u8]) -> Result<usize, FrameError>
+    ensures value { written_of result ≡ written (nat_le (length payload.now) 64) (line_of kind payload.now) out.old }
     ensures out_after { out.new ≡ leaves (nat_le (length payload.now) 64) (line_of kind payload.now) out.old }
 {
     if 64 < payload.len() {
-        return Written {
-            number: 27,
-            length: 0,
-        };
+        return Err(FrameError::DoesNotFit);
     }
     let feed = 2 * payload.len() + 6;
     if out.len() <= feed {
-        return Written {
-            number: 27,
-            length: 0,
-        };
+        return Err(FrameError::DoesNotFit);
     }
     let size = payload.len() as u8;
     put_byte(kind, out, 0);
@@ -116,8 +99,5 @@ pub fn write_line(kind: u8, payload: &[u8], out: &mut [u8]) -> Written
     put_bytes(payload, out, 4);
     put_byte(check(kind, size, payload), out, feed - 2);
     out[feed] = b'\n';
-    Written {
-        number: 0,
-        length: feed + 1,
-    }
+    Ok(feed + 1)
 }

@@ -35,36 +35,30 @@ sets_last l i (x ∷ xs) y =
     sets_last (set l i x) (suc i) xs y
     ∙ ap (λ (m : List ℕ). sets m (suc i) xs) (ap (λ (n : ℕ). set (set l i x) n y) e ∙ set_comm l i (i + suc (length xs)) x y (λ q. omega arith))
 
--- so many of the number's last bytes are stored, and what is left of it goes before them
-pub record Filling (before payload : List ℕ) (at width x done rest : ℕ) : Type 0 where
-  pub within : done ≤ width
+-- the number's last bytes are stored, and what is left of it goes before them
+pub record Filling (before payload : List ℕ) (at width x left rest : ℕ) : Type 0 where
   pub long : length payload ≡ length before
-  pub ahead : sets payload at (number_bytes (width - done) rest) ≡ sets before at (number_bytes width x)
+  pub ahead : sets payload at (number_bytes left rest) ≡ sets before at (number_bytes width x)
 
-pub filling_start : (payload : List ℕ) (at width x : ℕ) → Filling payload payload at width x 0 x
-filling_start payload at width x = let e : width - 0 ≡ width = omega arith in record { within = omega arith; long = refl; ahead = rw e }
-
-pub filling_next : (before payload : List ℕ) (at width x done rest byte : ℕ) → done < width → byte ≡ rest % 256
-    → Filling before payload at width x done rest
-    → Filling before (set payload (at + width - (done + 1)) byte) at width x (done + 1) (rest / 256)
+pub filling_next : (before payload : List ℕ) (at width x left rest byte : ℕ) → 0 < left → byte ≡ rest % 256
+    → Filling before payload at width x left rest
+    → Filling before (set payload (at + (left - 1)) byte) at width x (left - 1) (rest / 256)
 unfolding number_bytes
-filling_next before payload at width x done rest byte h e r =
-    let n = width - (done + 1) in
-    let i : at + width - (done + 1) ≡ at + n = omega arith in
-    let s : width - done ≡ suc n = omega arith in
+filling_next before payload at width x left rest byte h e r =
+    let n = left - 1 in
+    let s : left ≡ suc n = omega arith in
     let l = number_length n (rest / 256) in
-    rw i record {
-      within = omega arith;
+    record {
       long = length-set payload (at + n) byte ∙ r.long;
       ahead =
           ap (λ (m : List ℕ). sets m at (number_bytes n (rest / 256))) (rw (e, l))
           ∙ sym (sets_last payload at (number_bytes n (rest / 256)) (rest % 256)) ∙ (rw s at r.ahead);
     }
 
-pub filling_end : (before payload : List ℕ) (at width x done rest : ℕ) → width ≤ done → Filling before payload at width x done rest
+pub filling_end : (before payload : List ℕ) (at width x left rest : ℕ) → left ≤ 0 → Filling before payload at width x left rest
     → payload ≡ sets before at (number_bytes width x)
 unfolding number_bytes
-filling_end before payload at width x done rest h r = let e : width - done ≡ 0 = omega arith in rw e at r.ahead
+filling_end before payload at width x left rest h r = let e : left ≡ 0 = omega arith in rw e at r.ahead
 
 -- ---- reading
 

@@ -1,10 +1,11 @@
 -- Codes in pieces: they are looked at one by one and packed two by two, what is ahead being still to come, and unpacked they are the same. Assumes nothing.
-use mathlib.Core.Path.{◌≡◌, refl, sym, ap, ◌∙◌}
-use mathlib.Core.Bool.{true, false, ◌&&◌}
+use mathlib.Core.Path.{◌≡◌, refl, sym, ap, subst, ◌∙◌}
+use mathlib.Core.Bool.{Bool, true, false, ◌&&◌}
 use mathlib.Core.List.{List, [], ◌∷◌}
 use Prim.Native.Nat.{ℕ, zero, suc, ◌+◌, ◌*◌, ◌/◌, ◌%◌, ◌<◌, ◌≤◌}
 use native.Mathlib.Omega.{arith}
 use native.Mathlib.Numerals.{add-one}
+use Rattle.std.specs.List.{list_all}
 use lib.Dec.{leb}
 use lib.ListN.{length, get_or, take, drop, set, length-set, drop_of_length-le}
 use lib.Seq.{sets, take_at, drop-cons, drop-drop, get_or-drop}
@@ -16,34 +17,13 @@ use Rattle.payloads.specs.Pieces.{all_codes, code_bytes, codes_in, codes_fit}
 
 -- ---- are they codes
 
--- the first i are
-pub record Checking (codes : List ℕ) (i : ℕ) : Type 0 where
-  pub within : i ≤ length codes
-  pub ahead : all_codes codes ≡ all_codes (drop i codes)
+abbrev pub is_code : ℕ → Bool
+is_code c = leb 1 c && leb c 15
 
-pub checking_start : (codes : List ℕ) → Checking codes 0
-checking_start codes = record { within = omega arith; ahead = refl }
-
-step : (codes : List ℕ) (i : ℕ) → i < length codes → Checking codes i
-    → all_codes codes ≡ leb 1 (get_or codes i 0) && leb (get_or codes i 0) 15 && all_codes (drop (i + 1) codes)
+pub codes_all : (codes : List ℕ) → list_all is_code codes ≡ all_codes codes
 unfolding all_codes
-step codes i h r = r.ahead ∙ rw (drop-cons codes i 0 h, add-one)
-
-pub checking_next : (codes : List ℕ) (i : ℕ) → i < length codes → 1 ≤ get_or codes i 0 → get_or codes i 0 ≤ 15 → Checking codes i → Checking codes (i + 1)
-checking_next codes i h a b r = record {
-  within = omega arith;
-  ahead = step codes i h r ∙ rw (le-leb 1 (get_or codes i 0) a, le-leb (get_or codes i 0) 15 b);
-}
-
-pub zero_code : (codes : List ℕ) (i : ℕ) → i < length codes → get_or codes i 0 < 1 → Checking codes i → all_codes codes ≡ false
-zero_code codes i h a r = step codes i h r ∙ rw (lt-leb 1 (get_or codes i 0) a)
-
-pub large_code : (codes : List ℕ) (i : ℕ) → i < length codes → 1 ≤ get_or codes i 0 → 15 < get_or codes i 0 → Checking codes i → all_codes codes ≡ false
-large_code codes i h a b r = step codes i h r ∙ rw (le-leb 1 (get_or codes i 0) a, lt-leb (get_or codes i 0) 15 b)
-
-pub checking_end : (codes : List ℕ) (i : ℕ) → length codes ≤ i → Checking codes i → all_codes codes ≡ true
-unfolding all_codes
-checking_end codes i h r = r.ahead ∙ rw (drop_of_length-le codes h)
+codes_all [] = refl
+codes_all (c ∷ cs) = ap (λ b. is_code c && b) (codes_all cs)
 
 -- the first of some codes, and the rest
 record Codes (c : ℕ) (cs : List ℕ) : Type 0 where
@@ -77,36 +57,30 @@ unfolding code_bytes
 packed_step a [] = ap (λ (n : ℕ). n ∷ []) (omega arith)
 packed_step a (b ∷ rest) = refl
 
--- the first n bytes are stored, and the codes from i are still to come
-pub record Packing (codes before payload : List ℕ) (i n : ℕ) : Type 0 where
-  pub at : i ≡ 2 * n
-  pub within : i ≤ length codes + 1
+-- the first n bytes are stored, and the codes from 2 * n are still to come
+pub record Packing (codes before payload : List ℕ) (n : ℕ) : Type 0 where
   pub long : length payload ≡ length before
-  pub stored : sets payload n (code_bytes (drop i codes)) ≡ sets before 0 (code_bytes codes)
-  pub counted : n + length (code_bytes (drop i codes)) ≡ length (code_bytes codes)
+  pub stored : sets payload n (code_bytes (drop (2 * n) codes)) ≡ sets before 0 (code_bytes codes)
+  pub counted : n + length (code_bytes (drop (2 * n) codes)) ≡ length (code_bytes codes)
 
-pub packing_start : (codes payload : List ℕ) → Packing codes payload payload 0 0
-packing_start codes payload = record { at = refl; within = omega arith; long = refl; stored = refl; counted = omega arith }
-
-pub packing_next : (codes before payload : List ℕ) (i n low byte : ℕ) → i < length codes → low ≡ get_or codes (i + 1) 0 → byte ≡ get_or codes i 0 * 16 + low
-    → Packing codes before payload i n → Packing codes before (set payload n byte) (i + 2) (n + 1)
-packing_next codes before payload i n low byte h l e r =
+pub packing_next : (codes before payload : List ℕ) (n low byte : ℕ) → 2 * n < length codes → low ≡ get_or codes (2 * n + 1) 0
+    → byte ≡ get_or codes (2 * n) 0 * 16 + low → Packing codes before payload n → Packing codes before (set payload n byte) (n + 1)
+packing_next codes before payload n low byte h l e r =
+    let i = 2 * n in
     let k : n + 1 ≡ suc n = omega arith in
-    let j : suc i + 1 ≡ i + 2 = omega arith in
+    let j : suc i + 1 ≡ 2 * (n + 1) = omega arith in
     let m : suc i + 0 ≡ i + 1 = omega arith in
     let g : get_or (drop (suc i) codes) 0 0 ≡ low = get_or-drop (suc i) codes 0 0 ∙ rw m (sym l) in
-    let u : code_bytes (drop i codes) ≡ byte ∷ code_bytes (drop (i + 2) codes) =
+    let u : code_bytes (drop i codes) ≡ byte ∷ code_bytes (drop (2 * (n + 1)) codes) =
     ap code_bytes (drop-cons codes i 0 h) ∙ packed_step (get_or codes i 0) (drop (suc i) codes) ∙ rw (g, e, drop-drop 1 (suc i) codes, j) in
     record {
-      at = omega (arith, r.at);
-      within = omega arith;
       long = length-set payload n byte ∙ r.long;
-      stored = rw k (rw u at r.stored);
+      stored = subst (λ (m : ℕ). sets (set payload n byte) m (code_bytes (drop (2 * (n + 1)) codes)) ≡ sets before 0 (code_bytes codes)) (sym k) (rw u at r.stored);
       counted = omega (arith, ap length u, r.counted);
     }
 
-module _ (codes before payload : List ℕ) (i n : ℕ) (h : length codes ≤ i) (r : Packing codes before payload i n) where
-  ahead : code_bytes (drop i codes) ≡ []
+module _ (codes before payload : List ℕ) (n : ℕ) (h : length codes ≤ 2 * n) (r : Packing codes before payload n) where
+  ahead : code_bytes (drop (2 * n) codes) ≡ []
   unfolding code_bytes
   ahead = rw (drop_of_length-le codes h)
 

@@ -7,6 +7,9 @@ ghost use Rattle.decoding.specs.Reading.{bytes_left};
 ghost use Rattle.payloads.specs.Numbers.{number_bytes, number_at};
 ghost use Rattle.payloads.specs.Pieces.{all_codes, code_bytes};
 ghost use Rattle.payloads.specs.Lines.{kind_number};
+ghost use Rattle.lines.specs.Errors.{number_in};
+
+use lines::FrameError;
 
 // A number's lowest byte.
 fn low_byte(x: u64) -> u8
@@ -20,12 +23,10 @@ pub fn put_number(payload: &mut [u8], at: usize, width: usize, x: u64)
     requires { at + width ≤ length payload.old }
     ensures { payload.new ≡ sets payload.old at (number_bytes width x) }
 {
-    let mut done: usize = 0;
     let mut rest = x;
-    while done < width {
-        done += 1;
-        payload[at + width - done] = low_byte(rest);
-        rest = rest >> 8;
+    for i in (0..width).rev() {
+        payload[at + i] = low_byte(rest);
+        rest >>= 8;
     }
 }
 
@@ -36,10 +37,8 @@ pub fn number_at(bytes: &[u8], at: usize, width: usize) -> u64
     ensures { (result ≡ number_at bytes.now at width) × (result < 256 ^ width) }
 {
     let mut x: u64 = 0;
-    let mut i: usize = 0;
-    while i < width {
-        x = x * 256 + bytes[at + i] as u64;
-        i += 1;
+    for i in 0..width {
+        x = x * 256 + u64::from(bytes[at + i]);
     }
     x
 }
@@ -48,27 +47,14 @@ pub fn number_at(bytes: &[u8], at: usize, width: usize) -> u64
 fn code_at(codes: &[u8], i: usize) -> u8
     ensures { result ≡ get_or codes.now i 0 }
 {
-    if i < codes.len() {
-        return codes[i];
-    }
-    0
+    codes.get(i).copied().unwrap_or(0)
 }
 
 // Whether all codes are from 1 to 15.
 pub fn are_codes(codes: &[u8]) -> bool
     ensures { result ≡ all_codes codes.now }
 {
-    let mut i: usize = 0;
-    while i < codes.len() {
-        if codes[i] < 1 {
-            return false;
-        }
-        if codes[i] > 15 {
-            return false;
-        }
-        i += 1;
-    }
-    true
+    codes.iter().all(|code| (1..=15).contains(code))
 }
 
 // Two codes a byte, high half first, and how many bytes that makes.
@@ -78,31 +64,25 @@ pub fn pack(codes: &[u8], payload: &mut [u8]) -> usize
     ensures value { result ≡ length (code_bytes codes.now) }
     ensures payload_after { payload.new ≡ sets payload.old 0 (code_bytes codes.now) }
 {
-    let mut i: usize = 0;
-    let mut n: usize = 0;
-    while i < codes.len() {
-        payload[n] = lines::join(codes[i], code_at(codes, i + 1));
-        i += 2;
-        n += 1;
+    let count = codes.len().div_ceil(2);
+    for n in 0..count {
+        payload[n] = lines::join(codes[2 * n], code_at(codes, 2 * n + 1));
     }
-    n
+    count
 }
 
-// What is wrong with a line that is to have a kind and so many bytes of payload; 0 where nothing is.
-pub fn read_kind(line: &[u8], kind: u8, size: usize, bytes: &mut [u8]) -> u64
+// Reads a line that is to have a kind and so many bytes of payload.
+pub fn read_kind(line: &[u8], kind: u8, size: usize, bytes: &mut [u8]) -> Result<(), FrameError>
     requires { 67 ≤ length bytes.old }
-    ensures value { result ≡ kind_number kind size line.now }
+    ensures value { number_in result ≡ kind_number kind size line.now }
     ensures bytes_after { bytes.new ≡ bytes_left line.now bytes.old }
 {
-    let frame = decoding::read_line(line, bytes);
-    if frame.number != 0 {
-        return frame.number;
-    }
+    let frame = decoding::read_line(line, bytes)?;
     if frame.kind != kind {
-        return 23;
+        return Err(FrameError::WrongKind);
     }
     if frame.size != size {
-        return 25;
+        return Err(FrameError::WrongPayload);
     }
-    0
+    Ok(())
 }

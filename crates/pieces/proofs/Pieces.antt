@@ -10,9 +10,8 @@ use lib.Seq.{sets, sets-eq, length-take-le, take_at, drop_at}
 use borrow.Author.Tests.{le-leb, lt-leb, leb-true, eqb-true, eqb-false}
 use Rattle.rules.specs.Letters.{letter_of}
 use Rattle.payloads.specs.Pieces.{codes_in}
-use Rattle.pieces.specs.declared.Taken.{Taken}
 use Rattle.pieces.specs.Letters.{is_piece, piece_number, letters_in}
-use Rattle.pieces.specs.Taking.{piece_taken, piece_left}
+use Rattle.pieces.specs.Taking.{Taken, piece_taken, piece_left}
 
 module _ (payload letters : List ℕ) (count : ℕ) where
   pub no_piece : is_piece payload ≡ false → (record { number = 25; count = count } ≡ piece_taken payload count) × (letters ≡ piece_left payload count letters)

@@ -17,22 +17,18 @@ use Rattle.pieces.specs.Letters.{is_piece, letters_in}
 
 -- ---- is it a piece
 
-pub piece_short : (payload : List ℕ) → length payload < 1 → is_piece payload ≡ false
+pub piece_sized : (payload : List ℕ) → leb 1 (length payload) && leb (length payload) 64 ≡ false → is_piece payload ≡ false
 unfolding is_piece
-piece_short payload h = rw (lt-leb 1 (length payload) h)
-
-pub piece_long : (payload : List ℕ) → 1 ≤ length payload → 64 < length payload → is_piece payload ≡ false
-unfolding is_piece
-piece_long payload h g = rw (le-leb 1 (length payload) h, lt-leb (length payload) 64 g)
+piece_sized payload e = rw e
 
 -- no half of the first i bytes is 0
 pub record Halving (payload : List ℕ) (i : ℕ) : Type 0 where
   pub within : i ≤ length payload
   pub ahead : is_piece payload ≡ all_codes (codes_in (drop i payload))
 
-pub halving_start : (payload : List ℕ) → 1 ≤ length payload → length payload ≤ 64 → Halving payload 0
+pub halving_start : (payload : List ℕ) → leb 1 (length payload) && leb (length payload) 64 ≡ true → Halving payload 0
 unfolding is_piece
-halving_start payload h g = record { within = omega arith; ahead = rw (le-leb 1 (length payload) h, le-leb (length payload) 64 g) }
+halving_start payload e = record { within = omega arith; ahead = rw e }
 
 -- a byte's codes, before those of the others
 two_codes : (b : ℕ) (rest : List ℕ) → 0 < b % 16 → codes_in (b ∷ rest) ≡ b / 16 ∷ b % 16 ∷ codes_in rest

@@ -5,34 +5,24 @@ ghost use Rattle.std.specs.Prelude.{◌≡◌, true, [], ◌∷◌, ◌+◌, ◌
 ghost use Rattle.std.proofs.lemmas.List.Edits.{sets};
 ghost use Rattle.payloads.specs.Pieces.{all_codes, codes_in};
 ghost use Rattle.pieces.specs.Letters.{is_piece, letters_in};
-ghost use Rattle.pieces.specs.Taking.{piece_taken, piece_left};
+ghost use Rattle.pieces.specs.Taking.{taken_of, piece_taken, piece_left};
 
-// What became of a piece: what is wrong with it, and how many letters its sequence has then.
-#[derive(Drop)]
-pub struct Taken {
-    pub number: u64,
-    pub count: usize,
-}
+use lines::FrameError;
 
 // Whether a payload is a piece: 1 to 64 bytes, and no half of them 0 but the last.
 fn is_piece(payload: &[u8]) -> bool
     ensures { result ≡ is_piece payload.now }
 {
-    if payload.len() < 1 {
+    if !(1..=64).contains(&payload.len()) {
         return false;
     }
-    if payload.len() > 64 {
-        return false;
-    }
-    let mut i: usize = 0;
-    while i < payload.len() {
-        let halves = lines::split(payload[i]);
-        i += 1;
+    for (i, byte) in payload.iter().enumerate() {
+        let halves = lines::split(*byte);
         if halves.high == 0 {
             return false;
         }
         if halves.low == 0 {
-            return i == payload.len();
+            return i + 1 == payload.len();
         }
     }
     true
@@ -46,9 +36,10 @@ fn code_count(payload: &[u8]) -> usize
 {
     let last = lines::split(payload[payload.len() - 1]);
     if last.low == 0 {
-        return 2 * payload.len() - 1;
+        2 * payload.len() - 1
+    } else {
+        2 * payload.len()
     }
-    2 * payload.len()
 }
 
 // The letters of a byte's codes, from a place on, and the place behind them.
@@ -73,30 +64,26 @@ fn put_letters(payload: &[u8], letters: &mut [u8], at: usize)
     ensures { letters.new ≡ sets letters.old at (letters_in payload.now) }
 {
     let mut place = at;
-    let mut i: usize = 0;
-    while i < payload.len() {
-        place = put_byte(payload[i], letters, place);
-        i += 1;
+    for byte in payload {
+        place = put_byte(*byte, letters, place);
     }
 }
 
-// A piece goes behind the letters that its sequence has.
-pub fn take_piece(payload: &[u8], letters: &mut [u8], count: usize) -> Taken
+// A piece goes behind the letters that its sequence has. Gives how many the sequence has then.
+pub fn take_piece(payload: &[u8], letters: &mut [u8], count: usize) -> Result<usize, FrameError>
     requires count_bound { count ≤ 16384 }
     requires in_bounds { 16384 ≤ length letters.old }
-    ensures value { result ≡ piece_taken payload.now count }
+    ensures value { taken_of count result ≡ piece_taken payload.now count }
     ensures letters_after { letters.new ≡ piece_left payload.now count letters.old }
 {
-    if is_piece(payload) {
-        let more = code_count(payload);
-        if count + more <= 16384 {
-            put_letters(payload, letters, count);
-            return Taken {
-                number: 0,
-                count: count + more,
-            };
-        }
-        return Taken { number: 26, count };
+    if !is_piece(payload) {
+        return Err(FrameError::WrongPayload);
     }
-    Taken { number: 25, count }
+    let more = code_count(payload);
+    if count + more <= 16384 {
+        put_letters(payload, letters, count);
+        Ok(count + more)
+    } else {
+        Err(FrameError::TooManyLetters)
+    }
 }

@@ -14,7 +14,11 @@ use Rattle.decoding.proofs.Decoding.{byte_at}
 use Rattle.decoding.proofs.Frames.{count_most, frame_read}
 use Rattle.payloads.specs.Numbers.{number_at}
 use Rattle.payloads.specs.Lines.{kind_number}
-use Rattle.readers.specs.Readers.{entry_in, done_in, refused_in, no_entry, no_done, no_refused, read_entry_of, read_done, read_refused}
+use Rattle.std.proofs.Common.{Err}
+use Rattle.lines.specs.declared.error.FrameError.{FrameError}
+use Rattle.lines.specs.Errors.{number_of}
+use Rattle.lines.proofs.Unique.{error_some}
+use Rattle.readers.specs.Readers.{entry_in, done_in, refused_in, entry_numbered, done_numbered, refused_numbered, read_entry_of, read_done, read_refused}
 use Rattle.payloads.proofs.Numbers.{number_same}
 
 -- what is known of a line that has its kind
@@ -45,19 +49,21 @@ number_read kind size line old bytes at width n room left z h e =
     let same : (i : ℕ) → i < at + width → get_or bytes i 0 ≡ get_or (bytes_in line) i 0 = λ i l. rw s (byte_at line old i (omega (arith, r.long)) (omega arith)) in
     e ∙ number_same bytes (bytes_in line) at width same
 
-module _ (line : List ℕ) {n : ℕ} where
-  pub entry_refused : (kind : ℕ) → n ≡ kind_number kind 10 line → (n ≡ 0 → ⊥)
-      → record { number = n; sequence = 0; detail = 0; entry = no_entry } ≡ read_entry_of kind line
+module _ (line : List ℕ) (e : FrameError) where
+  wrong : number_of e ≡ 0 → ⊥
+  wrong z = omega (arith, error_some e)
+
+  pub entry_refused : (kind : ℕ) → number_of e ≡ kind_number kind 10 line → entry_numbered (Err e) ≡ read_entry_of kind line
   unfolding read_entry_of
-  entry_refused kind e h = rw (← e) (rw (ne_eqb n 0 h))
+  entry_refused kind h = rw (← h) (rw (ne_eqb (number_of e) 0 wrong))
 
-  pub done_refused : n ≡ kind_number 17 20 line → (n ≡ 0 → ⊥) → record { number = n; sequence = 0; detail = 0; done = no_done } ≡ read_done line
+  pub done_refused : number_of e ≡ kind_number 17 20 line → done_numbered (Err e) ≡ read_done line
   unfolding read_done
-  done_refused e h = rw (← e) (rw (ne_eqb n 0 h))
+  done_refused h = rw (← h) (rw (ne_eqb (number_of e) 0 wrong))
 
-  pub refused_refused : n ≡ kind_number 31 6 line → (n ≡ 0 → ⊥) → record { number = n; sequence = 0; detail = 0; refused = no_refused } ≡ read_refused line
+  pub refused_refused : number_of e ≡ kind_number 31 6 line → refused_numbered (Err e) ≡ read_refused line
   unfolding read_refused
-  refused_refused e h = rw (← e) (rw (ne_eqb n 0 h))
+  refused_refused h = rw (← h) (rw (ne_eqb (number_of e) 0 wrong))
 
 pub entry_good : (kind : ℕ) (line : List ℕ) {a b c d w : ℕ} → kind_number kind 10 line ≡ 0 → a ≡ number_at (bytes_in line) 2 2
     → b ≡ number_at (bytes_in line) 4 2 → c ≡ number_at (bytes_in line) 6 2 → d ≡ number_at (bytes_in line) 8 2 → w ≡ number_at (bytes_in line) 10 2

@@ -16,14 +16,11 @@ use Rattle.decoding.proofs.RoundTrip.{Bytes, bytes_append, line_bytes, line_read
 use Rattle.kinds.specs.declared.Entry.{Entry}
 use Rattle.kinds.specs.declared.Done.{Done}
 use Rattle.kinds.specs.declared.Refused.{Refused}
-use Rattle.readers.specs.declared.EntryRead.{EntryRead}
-use Rattle.readers.specs.declared.DoneRead.{DoneRead}
-use Rattle.readers.specs.declared.RefusedRead.{RefusedRead}
 use Rattle.payloads.specs.Numbers.{number_bytes, number_at}
 use Rattle.payloads.specs.Pieces.{code_bytes, codes_in, codes_fit}
 use Rattle.kinds.specs.Kinds.{job_numbers, job_payload, job_fits, job_line, piece_line, entry_payload, entry_fits, entry_line, reverse_line, done_payload, done_fits, done_line, refused_payload, refused_fits, refused_line}
 use Rattle.payloads.specs.Lines.{kind_number}
-use Rattle.readers.specs.Readers.{strand_in, job_in, entry_in, done_in, refused_in, read_entry_of, read_entry, read_reverse, read_done, read_refused}
+use Rattle.readers.specs.Readers.{EntryRead, DoneRead, RefusedRead, strand_in, job_in, entry_in, done_in, refused_in, read_entry_of, read_entry, read_reverse, read_done, read_refused}
 use Rattle.payloads.proofs.Numbers.{number_bytes_lem, number_back}
 use Rattle.payloads.proofs.Pieces.{codes_parts, packed_length, packed_are_bytes, codes_back}
 use Rattle.kinds.proofs.Jobs.{job_bytes, JobForm, forward, stranded, job_form, job_few, job_are_bytes}

@@ -4,10 +4,7 @@ use Rattle.std.specs.Prelude.{◌≡◌, refl, List, [], ◌∷◌, map, ℕ, re
 use Prim.Native.String.{String}
 use Rattle.rules.specs.Lists.{text}
 use Rattle.lines.specs.Writing.{fed}
-use Rattle.readers.specs.declared.EntryRead.{EntryRead}
-use Rattle.readers.specs.declared.DoneRead.{DoneRead}
-use Rattle.readers.specs.declared.RefusedRead.{RefusedRead}
-use Rattle.readers.specs.Readers.{read_entry, read_reverse, read_done, read_refused}
+use Rattle.readers.specs.Readers.{EntryRead, DoneRead, RefusedRead, read_entry, read_reverse, read_done, read_refused}
 
 -- a line read, all its numbers in their order: number, sequence, detail and values
 abbrev pub entry_read : EntryRead → List ℕ

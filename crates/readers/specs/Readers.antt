@@ -1,15 +1,14 @@
 -- Document 01, "Frames": "Kinds 10, 11 and 1F have a reader of one line, which must be the whole slice: 20, 21, 22, 23 (another kind), 25, in that
 -- order, with sequence, detail and values 0." CR 1: "Frame kind 12, with writer and reader", has one like kind 10's. Assumes nothing.
-use Rattle.std.specs.Prelude.{cond, List, ℕ, eqb}
+use Rattle.std.specs.Prelude.{cond, List, ℕ, eqb, Result, Ok, Err}
 use Rattle.rules.specs.declared.Settings.{Settings}
 use Rattle.rules.specs.Entered.{settings}
 use Rattle.decoding.specs.Digits.{bytes_in}
 use Rattle.kinds.specs.declared.Entry.{Entry}
 use Rattle.kinds.specs.declared.Done.{Done}
 use Rattle.kinds.specs.declared.Refused.{Refused}
-use Rattle.readers.specs.declared.EntryRead.{EntryRead}
-use Rattle.readers.specs.declared.DoneRead.{DoneRead}
-use Rattle.readers.specs.declared.RefusedRead.{RefusedRead}
+use Rattle.lines.specs.declared.error.FrameError.{FrameError}
+use Rattle.lines.specs.Errors.{number_of}
 use Rattle.payloads.specs.Numbers.{number_at}
 use Rattle.payloads.specs.Lines.{kind_number}
 
@@ -56,6 +55,40 @@ unfoldable pub no_refused : Refused
 no_refused = record { number = 0; sequence = 0; detail = 0 }
 
 -- ---- what a reader answers
+
+-- 0 and the values, or the number of what is wrong with the line and all values 0. The sequence and the detail are always 0.
+pub record EntryRead : Type 0 where
+  pub number : ℕ
+  pub sequence : ℕ
+  pub detail : ℕ
+  pub entry : Entry
+
+-- the same of a done frame
+pub record DoneRead : Type 0 where
+  pub number : ℕ
+  pub sequence : ℕ
+  pub detail : ℕ
+  pub done : Done
+
+-- the same of a refused frame, whose own number, sequence and detail are among its values
+pub record RefusedRead : Type 0 where
+  pub number : ℕ
+  pub sequence : ℕ
+  pub detail : ℕ
+  pub refused : Refused
+
+-- the values that are read, or what is wrong, by document 01's numbers
+abbrev pub entry_numbered : Result Entry FrameError → EntryRead
+entry_numbered (Ok x) = record { number = 0; sequence = 0; detail = 0; entry = x }
+entry_numbered (Err e) = record { number = number_of e; sequence = 0; detail = 0; entry = no_entry }
+
+abbrev pub done_numbered : Result Done FrameError → DoneRead
+done_numbered (Ok x) = record { number = 0; sequence = 0; detail = 0; done = x }
+done_numbered (Err e) = record { number = number_of e; sequence = 0; detail = 0; done = no_done }
+
+abbrev pub refused_numbered : Result Refused FrameError → RefusedRead
+refused_numbered (Ok x) = record { number = 0; sequence = 0; detail = 0; refused = x }
+refused_numbered (Err e) = record { number = number_of e; sequence = 0; detail = 0; refused = no_refused }
 
 -- an entry of a kind: 10 is a forward one, 12 a reverse one
 unfoldable pub read_entry_of : ℕ → List ℕ → EntryRead

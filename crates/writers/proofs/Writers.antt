@@ -6,8 +6,7 @@ use Prim.Native.Nat.{ℕ, ◌≤◌}
 use lib.Dec.{leb}
 use lib.ListN.{length}
 use borrow.Author.Tests.{le-leb}
-use Rattle.lines.specs.declared.Written.{Written}
-use Rattle.lines.specs.Writing.{line_of, is_written, written, leaves}
+use Rattle.lines.specs.Writing.{Written, line_of, is_written, written, leaves}
 use Rattle.lines.proofs.Lines.{refuses}
 
 pub not_fitting : (line out : List ℕ) (fits : Bool) → fits ≡ false → (record { number = 27; length = 0 } ≡ written fits line out) × (out ≡ leaves fits line out)

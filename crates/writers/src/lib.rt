@@ -2,118 +2,119 @@
 #![tactic(auto)]
 
 ghost use Rattle.std.specs.Prelude.{◌≡◌, true, ◌&&◌, leb, length};
-ghost use Rattle.lines.specs.Writing.{line_of, written, leaves};
+ghost use Rattle.lines.specs.Writing.{line_of, written, written_of, leaves};
 ghost use Rattle.payloads.specs.Pieces.{code_bytes, codes_fit};
+ghost use Rattle.kinds.specs.Kind.{kind_byte};
 ghost use Rattle.kinds.specs.Kinds.{job_fits, job_line, piece_line, end_line, entry_payload, entry_fits, entry_line, reverse_line, done_fits, done_line, refused_fits, refused_line};
 
-use kinds::{Done, Entry, Refused};
-use lines::Written;
+use kinds::{Done, Entry, Kind, Refused};
+use lines::FrameError;
 use rules::Settings;
 
 // The line of a kind, where its values fit.
-fn write_fitting(fits: bool, kind: u8, payload: &[u8], out: &mut [u8]) -> Written
-    ensures value { result ≡ written (fits && leb (length payload.now) 64) (line_of kind payload.now) out.old }
-    ensures out_after { out.new ≡ leaves (fits && leb (length payload.now) 64) (line_of kind payload.now) out.old }
+fn write_fitting(
+    fits: bool,
+    kind: Kind,
+    payload: &[u8],
+    out: &mut [u8],
+) -> Result<usize, FrameError>
+    ensures value { written_of result ≡ written (fits && leb (length payload.now) 64) (line_of (kind_byte kind) payload.now) out.old }
+    ensures out_after { out.new ≡ leaves (fits && leb (length payload.now) 64) (line_of (kind_byte kind) payload.now) out.old }
 {
     if fits {
-        return lines::write_line(kind, payload, out);
-    }
-    Written {
-        number: 27,
-        length: 0,
+        lines::write_line(kind.byte(), payload, out)
+    } else {
+        Err(FrameError::DoesNotFit)
     }
 }
 
 // A job: seven bytes of it where it is forward, else all eight.
-pub fn write_job(job: Settings, out: &mut [u8]) -> Written
-    ensures value { result ≡ written (job_fits job) (job_line job) out.old }
+pub fn write_job(job: Settings, out: &mut [u8]) -> Result<usize, FrameError>
+    ensures value { written_of result ≡ written (job_fits job) (job_line job) out.old }
     ensures out_after { out.new ≡ leaves (job_fits job) (job_line job) out.old }
 {
     let payload = kinds::job_bytes(job);
     let size = kinds::job_size(job);
-    write_fitting(kinds::job_fits(job), 0x01, &payload[..size], out)
+    write_fitting(kinds::job_fits(job), Kind::Job, &payload[..size], out)
 }
 
 // An entry of the kind that tells its strand.
-fn write_entry_of(kind: u8, entry: Entry, out: &mut [u8]) -> Written
-    ensures value { result ≡ written (entry_fits entry) (line_of kind (entry_payload entry)) out.old }
-    ensures out_after { out.new ≡ leaves (entry_fits entry) (line_of kind (entry_payload entry)) out.old }
+fn write_entry_of(kind: Kind, entry: Entry, out: &mut [u8]) -> Result<usize, FrameError>
+    ensures value { written_of result ≡ written (entry_fits entry) (line_of (kind_byte kind) (entry_payload entry)) out.old }
+    ensures out_after { out.new ≡ leaves (entry_fits entry) (line_of (kind_byte kind) (entry_payload entry)) out.old }
 {
     let payload = kinds::entry_payload(entry);
     write_fitting(kinds::entry_fits(entry), kind, &payload, out)
 }
 
 // A forward entry.
-pub fn write_entry(entry: Entry, out: &mut [u8]) -> Written
-    ensures value { result ≡ written (entry_fits entry) (entry_line entry) out.old }
+pub fn write_entry(entry: Entry, out: &mut [u8]) -> Result<usize, FrameError>
+    ensures value { written_of result ≡ written (entry_fits entry) (entry_line entry) out.old }
     ensures out_after { out.new ≡ leaves (entry_fits entry) (entry_line entry) out.old }
 {
-    write_entry_of(0x10, entry, out)
+    write_entry_of(Kind::Entry, entry, out)
 }
 
 // A reverse entry.
-pub fn write_reverse_entry(entry: Entry, out: &mut [u8]) -> Written
-    ensures value { result ≡ written (entry_fits entry) (reverse_line entry) out.old }
+pub fn write_reverse_entry(entry: Entry, out: &mut [u8]) -> Result<usize, FrameError>
+    ensures value { written_of result ≡ written (entry_fits entry) (reverse_line entry) out.old }
     ensures out_after { out.new ≡ leaves (entry_fits entry) (reverse_line entry) out.old }
 {
-    write_entry_of(0x12, entry, out)
+    write_entry_of(Kind::ReverseEntry, entry, out)
 }
 
 // What a job that was done comes to.
-pub fn write_done(done: Done, out: &mut [u8]) -> Written
-    ensures value { result ≡ written (done_fits done) (done_line done) out.old }
+pub fn write_done(done: Done, out: &mut [u8]) -> Result<usize, FrameError>
+    ensures value { written_of result ≡ written (done_fits done) (done_line done) out.old }
     ensures out_after { out.new ≡ leaves (done_fits done) (done_line done) out.old }
 {
     let payload = kinds::done_payload(done);
-    write_fitting(kinds::done_fits(done), 0x11, &payload, out)
+    write_fitting(kinds::done_fits(done), Kind::Done, &payload, out)
 }
 
 // A refusal.
-pub fn write_refused(refused: Refused, out: &mut [u8]) -> Written
-    ensures value { result ≡ written (refused_fits refused) (refused_line refused) out.old }
+pub fn write_refused(refused: Refused, out: &mut [u8]) -> Result<usize, FrameError>
+    ensures value { written_of result ≡ written (refused_fits refused) (refused_line refused) out.old }
     ensures out_after { out.new ≡ leaves (refused_fits refused) (refused_line refused) out.old }
 {
     let payload = kinds::refused_payload(refused);
-    write_fitting(kinds::refused_fits(refused), 0x1F, &payload, out)
+    write_fitting(kinds::refused_fits(refused), Kind::Refused, &payload, out)
 }
 
 // An end fits wherever its line does.
-pub fn write_end(out: &mut [u8]) -> Written
-    ensures value { result ≡ written true end_line out.old }
+pub fn write_end(out: &mut [u8]) -> Result<usize, FrameError>
+    ensures value { written_of result ≡ written true end_line out.old }
     ensures out_after { out.new ≡ leaves true end_line out.old }
 {
-    let payload = [0u8; 0];
-    lines::write_line(0x04, &payload, out)
+    lines::write_line(Kind::End.byte(), &[], out)
 }
 
 // A piece of the kind that tells its sequence, by its letters' codes.
-fn write_piece_of(kind: u8, codes: &[u8], out: &mut [u8]) -> Written
-    ensures value { result ≡ written (codes_fit codes.now) (line_of kind (code_bytes codes.now)) out.old }
-    ensures out_after { out.new ≡ leaves (codes_fit codes.now) (line_of kind (code_bytes codes.now)) out.old }
+fn write_piece_of(kind: Kind, codes: &[u8], out: &mut [u8]) -> Result<usize, FrameError>
+    ensures value { written_of result ≡ written (codes_fit codes.now) (line_of (kind_byte kind) (code_bytes codes.now)) out.old }
+    ensures out_after { out.new ≡ leaves (codes_fit codes.now) (line_of (kind_byte kind) (code_bytes codes.now)) out.old }
 {
     if kinds::piece_fits(codes) {
         let mut payload = [0u8; 64];
         let n = payloads::pack(codes, &mut payload);
-        return lines::write_line(kind, &payload[..n], out);
-    }
-    Written {
-        number: 27,
-        length: 0,
+        lines::write_line(kind.byte(), &payload[..n], out)
+    } else {
+        Err(FrameError::DoesNotFit)
     }
 }
 
 // A piece of the first sequence.
-pub fn write_first_piece(codes: &[u8], out: &mut [u8]) -> Written
-    ensures value { result ≡ written (codes_fit codes.now) (piece_line 1 codes.now) out.old }
+pub fn write_first_piece(codes: &[u8], out: &mut [u8]) -> Result<usize, FrameError>
+    ensures value { written_of result ≡ written (codes_fit codes.now) (piece_line 1 codes.now) out.old }
     ensures out_after { out.new ≡ leaves (codes_fit codes.now) (piece_line 1 codes.now) out.old }
 {
-    write_piece_of(0x02, codes, out)
+    write_piece_of(Kind::FirstPiece, codes, out)
 }
 
 // A piece of the second sequence.
-pub fn write_second_piece(codes: &[u8], out: &mut [u8]) -> Written
-    ensures value { result ≡ written (codes_fit codes.now) (piece_line 2 codes.now) out.old }
+pub fn write_second_piece(codes: &[u8], out: &mut [u8]) -> Result<usize, FrameError>
+    ensures value { written_of result ≡ written (codes_fit codes.now) (piece_line 2 codes.now) out.old }
     ensures out_after { out.new ≡ leaves (codes_fit codes.now) (piece_line 2 codes.now) out.old }
 {
-    write_piece_of(0x03, codes, out)
+    write_piece_of(Kind::SecondPiece, codes, out)
 }

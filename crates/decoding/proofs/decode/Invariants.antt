@@ -1,10 +1,6 @@
 -- What is stored and summed, and what is ahead, make all of the line's bytes. Assumes nothing.
-use Rattle.std.proofs.Common.{◌-◌, length}
 use Rattle.decoding.proofs.Decoding.{Decoding}
 use Rattle.decoding.proofs.decode.Given as goal
 
 abbrev pub invariant-loop-i : goal.invariant-loop-i
-invariant-loop-i l = Decoding l.line l.initial.bytes l.bytes l.i l.count l.sum
-
-abbrev pub decreases-loop-i : goal.decreases-loop-i
-decreases-loop-i l = length l.line - l.i
+invariant-loop-i l = Decoding l.line l.initial.bytes l.bytes l.i l.sum

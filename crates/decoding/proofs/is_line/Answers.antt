@@ -1,36 +1,23 @@
-use Rattle.std.proofs.Common.{sym, arith}
-use Rattle.decoding.proofs.Decoding.{line_short, line_long, looking_start, looking_next, looking_end, bad_first, bad_second, no_feed}
+-- A line feed stands behind an even count of digits, or it is no line. Assumes nothing.
+use Rattle.std.proofs.Common.{◌≡◌, ◌-◌, ◌∙◌, sym, length, take, arith, rules}
+use Rattle.std.proofs.lemmas.Iterator.{YieldsList-from_slice}
+use Rattle.std.proofs.lemmas.Iterator.Search.{all_from_yields_List}
+use Rattle.std.specs.List.{list_all}
+use Rattle.decoding.proofs.Decoding.{is_digit, line_short, no_feed, fed}
 use Rattle.decoding.proofs.is_line.Goals as goal
 
-pub returns-then-line-lt7 : goal.returns-then-line-lt7
-returns-then-line-lt7 c =
-    sym (line_short _ c.if-line-lt7.true)
+pub returns-in-10 : goal.returns-in-10
+returns-in-10 c =
+    let digits = take (length c.args.line.now - 1) c.args.line.now in
+    let e : c.all.result ≡ list_all is_digit digits =
+    all_from_yields_List is_digit _ _ _ c.all.ensures.ran (YieldsList-from_slice digits cc) (λ x b q k. search rules) in
+    e ∙ sym (fed c.args.line.now c.in-10.len_at_least (cc) ∙ rw (sym c.is_count.ensures ∙ c.if-is_count.true))
 
-pub returns-then-line-gt135 : goal.returns-then-line-gt135
-returns-then-line-gt135 c =
-    sym (line_long _ c.if-line-lt7.false c.if-line-gt135.true)
+pub returns-in_default : goal.returns-in_default
+returns-in_default c = sym (line_short c.args.line.now (omega arith))
 
-pub loop-i-init : goal.loop-i-init
-loop-i-init c =
-    looking_start _ c.if-line-lt7.false c.if-line-gt135.false
+pub returns-in_default-2 : goal.returns-in_default-2
+returns-in_default-2 c = sym (fed c.args.line.now c.in-10.len_at_least (cc) ∙ rw (sym c.is_count.ensures ∙ c.if-is_count.false))
 
-pub returns-then-nibble-gt15 : goal.returns-then-nibble-gt15
-returns-then-nibble-gt15 c =
-    sym (bad_first _ _ c.loop-i-test.true (omega (arith, c.if-nibble-gt15.true, c.nibble.ensures)) c.loop-i.invariant)
-
-pub returns-then-nibble-gt15-2 : goal.returns-then-nibble-gt15-2
-returns-then-nibble-gt15-2 c =
-    sym (bad_second _ _ c.loop-i-test.true (omega (arith, c.if-nibble-gt15-2.true, c.nibble-in-loop-i.ensures)) c.loop-i.invariant)
-
-pub loop-i-preserved : goal.loop-i-preserved
-loop-i-preserved c =
-    looking_next _ _ c.loop-i-test.true (omega (arith, c.if-nibble-gt15.false, c.nibble.ensures))
-    (omega (arith, c.if-nibble-gt15-2.false, c.nibble-in-loop-i.ensures)) c.loop-i.invariant
-
-pub returns-then-i-line : goal.returns-then-i-line
-returns-then-i-line c =
-    sym (looking_end _ _ c.if-i-line.true c.loop-i-test.false c.loop-i.invariant)
-
-pub returns : goal.returns
-returns c =
-    sym (no_feed _ _ c.if-i-line.false c.loop-i.invariant)
+pub returns-in_default-3 : goal.returns-in_default-3
+returns-in_default-3 c = no_feed c.args.line.now c.in_default.len_at_least (λ z. absurd (omega arith))

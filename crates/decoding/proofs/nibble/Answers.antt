@@ -1,40 +1,25 @@
 -- Each way out is one side of the definition. Assumes nothing.
-use Rattle.std.proofs.Common.{le-ltb, lt-ltb, le-leb}
-use borrow.Author.Tests.{lt-leb}
+use Rattle.std.proofs.Common.{arith}
+use Rattle.std.proofs.lemmas.Bool.Decides.{nat_tests}
 use Rattle.decoding.specs.Digits.{nibble_of}
 use Rattle.decoding.proofs.nibble.Goals as goal
 
-pub returns-then-digit-lt48 : goal.returns-then-digit-lt48
+pub returns-in-48-to-57-clause-value : goal.returns-in-48-to-57-clause-value
 unfolding nibble_of
-returns-then-digit-lt48 c =
-    simp (lt-ltb _ _ c.if-digit-lt48.true)
+returns-in-48-to-57-clause-value c = grind (arith, nat_tests)
 
-pub returns-then-digit-le57 : goal.returns-then-digit-le57
+pub returns-in-65-to-70-clause-value : goal.returns-in-65-to-70-clause-value
 unfolding nibble_of
-returns-then-digit-le57 c =
-    simp (le-ltb _ _ c.if-digit-lt48.false, le-leb _ _ c.if-digit-le57.true)
+returns-in-65-to-70-clause-value c = grind (arith, nat_tests)
 
-pub returns-then-digit-lt65 : goal.returns-then-digit-lt65
+pub returns-in_default-clause-value : goal.returns-in_default-clause-value
 unfolding nibble_of
-returns-then-digit-lt65 c =
-    simp (le-ltb _ _ c.if-digit-lt48.false, lt-leb _ _ c.if-digit-le57.false, lt-ltb _ _ c.if-digit-lt65.true)
+returns-in_default-clause-value c = grind (arith, nat_tests)
 
-pub returns-then-digit-le70 : goal.returns-then-digit-le70
+pub returns-in_default-2-clause-value : goal.returns-in_default-2-clause-value
 unfolding nibble_of
-returns-then-digit-le70 c =
-    simp (
-      le-ltb _ _ c.if-digit-lt48.false,
-      lt-leb _ _ c.if-digit-le57.false,
-      le-ltb _ _ c.if-digit-lt65.false,
-      le-leb _ _ c.if-digit-le70.true,
-    )
+returns-in_default-2-clause-value c = grind (arith, nat_tests)
 
-pub returns : goal.returns
+pub returns-in_default-3-clause-value : goal.returns-in_default-3-clause-value
 unfolding nibble_of
-returns c =
-    simp (
-      le-ltb _ _ c.if-digit-lt48.false,
-      lt-leb _ _ c.if-digit-le57.false,
-      le-ltb _ _ c.if-digit-lt65.false,
-      lt-leb _ _ c.if-digit-le70.false,
-    )
+returns-in_default-3-clause-value c = grind (arith, nat_tests)

@@ -1,12 +1,12 @@
 -- Each way out is one case of the definition, by what was stored and summed. Assumes nothing.
-use Rattle.std.proofs.Common.{sym, ◌∙◌, arith}
+use Rattle.std.proofs.Common.{sym, ◌∙◌, arith, rules}
 use Rattle.decoding.proofs.Decoding.{line_parts}
 use Rattle.decoding.proofs.Frames.{no_line, length_wrong, check_wrong, is_frame}
 use Rattle.decoding.proofs.read_line.Goals as goal
 
 pub returns-then-not-is_line : goal.returns-then-not-is_line
 returns-then-not-is_line c =
-    let both = no_line _ _ _ (sym c.is_line.ensures ∙ c.if-not-is_line.true) c.refused.ensures in
+    let both = no_line c.args.line.now c.args.bytes.now (sym c.is_line.ensures ∙ c.if-not-is_line.true) in
     record { value = both.0; bytes_after = both.1 }
 
 pub decode-found-requires : goal.decode-found-requires
@@ -16,18 +16,18 @@ decode-found-requires c =
 
 pub returns-then-size-found : goal.returns-then-size-found
 returns-then-size-found c =
-    let both = length_wrong _ c.args.bytes.now _ _ _ _ (sym c.is_line.ensures ∙ c.if-not-is_line.false) c.requires c.decode-found.ensures.bytes_after
-    c.decode-found.ensures.count_value.0 c.decode-found.ensures.count_value.1 c.wide-size.ensures.0 _ c.if-size-found.true c.refused-then-size-found.ensures in
+    let both = length_wrong c.args.line.now c.args.bytes.now _ _ _ _ (sym c.is_line.ensures ∙ c.if-not-is_line.false) c.requires c.decode-found.ensures.bytes_after
+    c.decode-found.ensures.count_value.0 c.decode-found.ensures.count_value.1 (search rules) c.if-size-found.true in
     record { value = both.0; bytes_after = both.1 }
 
 pub returns-then-found-ne0 : goal.returns-then-found-ne0
 returns-then-found-ne0 c =
-    let both = check_wrong _ c.args.bytes.now _ _ _ _ (sym c.is_line.ensures ∙ c.if-not-is_line.false) c.requires c.decode-found.ensures.bytes_after
-    c.decode-found.ensures.count_value.0 c.decode-found.ensures.count_value.1 c.wide-size.ensures.0 c.if-size-found.false _ c.if-found-ne0.true c.refused-then-found-ne0.ensures in
+    let both = check_wrong c.args.line.now c.args.bytes.now _ _ _ _ (sym c.is_line.ensures ∙ c.if-not-is_line.false) c.requires c.decode-found.ensures.bytes_after
+    c.decode-found.ensures.count_value.0 c.decode-found.ensures.count_value.1 (search rules) c.if-size-found.false c.if-found-ne0.true in
     record { value = both.0; bytes_after = both.1 }
 
 pub returns : goal.returns
 returns c =
-    let both = is_frame _ c.args.bytes.now _ _ _ _ (sym c.is_line.ensures ∙ c.if-not-is_line.false) c.requires c.decode-found.ensures.bytes_after
-    c.decode-found.ensures.count_value.0 c.decode-found.ensures.count_value.1 c.wide-size.ensures.0 c.if-size-found.false c.if-found-ne0.false in
+    let both = is_frame c.args.line.now c.args.bytes.now _ _ _ _ (sym c.is_line.ensures ∙ c.if-not-is_line.false) c.requires c.decode-found.ensures.bytes_after
+    c.decode-found.ensures.count_value.0 c.decode-found.ensures.count_value.1 (search rules) c.if-size-found.false c.if-found-ne0.false in
     record { value = both.0; bytes_after = both.1 }

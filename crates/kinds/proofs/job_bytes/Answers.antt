@@ -1,5 +1,4 @@
 -- The numbers are stored one behind the other. Assumes nothing.
-use mathlib.Core.Path.{◌∙◌}
 use Rattle.kinds.specs.Kinds.{job_numbers}
 use Rattle.payloads.specs.Numbers.{number_bytes}
 use Rattle.kinds.proofs.job_bytes.Goals as goal
@@ -7,4 +6,15 @@ use Rattle.kinds.proofs.job_bytes.Goals as goal
 pub returns : goal.returns
 unfolding job_numbers number_bytes
 returns c =
-    c.put_number-5.ensures ∙ rw c.put_number-4.ensures (rw c.put_number-3.ensures (rw c.put_number-2.ensures (rw c.put_number.ensures)))
+    rw (
+      c.put_number-5.ensures,
+      c.from-5.ensures,
+      c.put_number-4.ensures,
+      c.from-4.ensures,
+      c.put_number-3.ensures,
+      c.from-3.ensures,
+      c.put_number-2.ensures,
+      c.from-2.ensures,
+      c.put_number.ensures,
+      c.from.ensures,
+    )

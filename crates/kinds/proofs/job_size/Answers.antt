@@ -7,6 +7,6 @@ pub returns-then-job-eq0 : goal.returns-then-job-eq0
 returns-then-job-eq0 c =
     sym (forward_size _ c.if-job-eq0.true)
 
-pub returns : goal.returns
-returns c =
+pub returns-else-job-eq0 : goal.returns-else-job-eq0
+returns-else-job-eq0 c =
     sym (stranded_size _ c.if-job-eq0.false)

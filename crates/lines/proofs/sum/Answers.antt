@@ -1,10 +1,10 @@
-use Rattle.lines.proofs.Sums.{summing_next, summing_end}
+-- The fold is the sum that wraps. Assumes nothing.
+use Rattle.std.proofs.Common.{◌≡◌, ◌∙◌, ◌+◌, ◌%◌, rules}
+use Rattle.std.specs.List.{fold}
+use Rattle.lines.proofs.Sums.{sum_folded}
 use Rattle.lines.proofs.sum.Goals as goal
-
-pub loop-i-preserved : goal.loop-i-preserved
-loop-i-preserved c =
-    summing_next _ _ _ _ c.loop-i-test.true c.wrapping_add_u8-acc.ensures.value c.loop-i.invariant
 
 pub returns : goal.returns
 returns c =
-    summing_end _ _ _ c.loop-i-test.false c.loop-i.invariant
+    let e : c.fold.result ≡ fold (λ a x. (a + x) % 256) 0 c.args.bytes.now = search rules in
+    e ∙ sum_folded c.args.bytes.now

@@ -12,8 +12,8 @@ pub overflow_mul-x : goal.overflow_mul-x
 overflow_mul-x c =
     omega (arith, gathering_fits _ _ _ _ _ 0 c.requires.width_bound c.loop-i-test.true (omega arith) c.loop-i.invariant)
 
-pub overflow_add-x-in-loop-i : goal.overflow_add-x-in-loop-i
-overflow_add-x-in-loop-i c =
+pub overflow_add-x : goal.overflow_add-x
+overflow_add-x c =
     let b : get_or c.args.bytes.now (c.args.at + c.loop-i.i) 0 < 256 =
     omega (arith, c.type_inv.bytes (c.args.at + c.loop-i.i)) in
     omega (arith, gathering_fits _ _ _ _ _ _ c.requires.width_bound c.loop-i-test.true b c.loop-i.invariant)
@@ -22,4 +22,4 @@ pub loop-i-preserved : goal.loop-i-preserved
 loop-i-preserved c =
     let b : get_or c.args.bytes.now (c.args.at + c.loop-i.i) 0 < 256 =
     omega (arith, c.type_inv.bytes (c.args.at + c.loop-i.i)) in
-    gathering_next _ _ _ _ _ c.loop-i-test.true b c.loop-i.invariant
+    rw c.from.ensures (gathering_next _ _ _ _ _ c.loop-i-test.true b c.loop-i.invariant)

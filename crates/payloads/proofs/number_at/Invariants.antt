@@ -1,10 +1,6 @@
 -- Each byte read makes the number 256 times as large and adds itself. Assumes nothing.
-use Prim.Native.Nat.{◌-◌}
 use Rattle.payloads.proofs.Numbers.{Gathering}
 use Rattle.payloads.proofs.number_at.Given as goal
 
 abbrev pub invariant-loop-i : goal.invariant-loop-i
 invariant-loop-i l = Gathering l.bytes l.at l.width l.x l.i
-
-abbrev pub decreases-loop-i : goal.decreases-loop-i
-decreases-loop-i l = l.width - l.i

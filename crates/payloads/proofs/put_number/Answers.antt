@@ -1,10 +1,11 @@
+use Rattle.std.proofs.Common.{arith}
 use Rattle.payloads.proofs.Numbers.{filling_next, filling_end}
 use Rattle.payloads.proofs.put_number.Goals as goal
 
-pub loop-done-preserved : goal.loop-done-preserved
-loop-done-preserved c =
-    filling_next _ _ _ _ _ _ _ _ c.loop-done-test.true c.low_byte.ensures c.loop-done.invariant
+pub loop-i-preserved : goal.loop-i-preserved
+loop-i-preserved c =
+    filling_next _ _ _ _ _ _ _ _ (omega arith) c.low_byte.ensures c.loop-i.invariant
 
 pub returns : goal.returns
 returns c =
-    filling_end _ _ _ _ _ _ _ c.loop-done-test.false c.loop-done.invariant
+    filling_end _ _ _ _ _ _ _ (omega arith) c.loop-i.invariant

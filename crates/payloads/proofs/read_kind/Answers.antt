@@ -1,27 +1,18 @@
 -- Each way out is one case of the definition. Assumes nothing.
+use Rattle.std.proofs.lemmas.Result.{err_from_is_err_and}
 use Rattle.payloads.proofs.Lines.{line_wrong, kind_wrong, size_wrong, all_right}
 use Rattle.payloads.proofs.read_kind.Goals as goal
 
-pub returns-then-frame-ne0 : goal.returns-then-frame-ne0
-returns-then-frame-ne0 c =
-    record { value = line_wrong c.args.kind c.args.size _ _ c.read_line-frame.ensures.value c.if-frame-ne0.true; bytes_after = c.read_line-frame.ensures.bytes_after }
+pub returns-in_err-frame-clause-value : goal.returns-in_err-frame-clause-value
+returns-in_err-frame-clause-value c =
+    let p = err_from_is_err_and c.from_residual.result c.from_residual.ensures.1 in
+    rw (p.1, p.2) (line_wrong _ _ _ c.in_err-frame.field-0.0 c.in_err-frame.ensures.value)
 
-pub returns-then-frame-kind : goal.returns-then-frame-kind
-returns-then-frame-kind c =
-    record { value = kind_wrong c.args.kind c.args.size _ _ c.read_line-frame.ensures.value c.if-frame-ne0.false c.if-frame-kind.true; bytes_after = c.read_line-frame.ensures.bytes_after }
+pub returns-then-frame-kind-clause-value : goal.returns-then-frame-kind-clause-value
+returns-then-frame-kind-clause-value c = kind_wrong _ _ _ _ _ c.in_ok-frame.ensures.value c.if-frame-kind.true
 
-pub returns-then-frame-size : goal.returns-then-frame-size
-returns-then-frame-size c =
-    record {
-      value = size_wrong c.args.kind c.args.size _ _ c.read_line-frame.ensures.value c.if-frame-ne0.false c.if-frame-kind.false
-          c.if-frame-size.true;
-      bytes_after = c.read_line-frame.ensures.bytes_after;
-    }
+pub returns-then-frame-size-clause-value : goal.returns-then-frame-size-clause-value
+returns-then-frame-size-clause-value c = size_wrong _ _ _ _ _ c.in_ok-frame.ensures.value c.if-frame-kind.false c.if-frame-size.true
 
-pub returns : goal.returns
-returns c =
-    record {
-      value = all_right c.args.kind c.args.size _ _ c.read_line-frame.ensures.value c.if-frame-ne0.false c.if-frame-kind.false
-          c.if-frame-size.false;
-      bytes_after = c.read_line-frame.ensures.bytes_after;
-    }
+pub returns-clause-value : goal.returns-clause-value
+returns-clause-value c = all_right _ _ _ _ _ c.in_ok-frame.ensures.value c.if-frame-kind.false c.if-frame-size.false

@@ -1,21 +1,24 @@
-use mathlib.Core.Path.{sym}
+use mathlib.Core.Path.{◌≡◌, sym, ◌∙◌}
+use mathlib.Core.Bool.{◌&&◌}
 use Prim.Native.Nat.{◌<◌}
 use native.Mathlib.Omega.{arith}
-use lib.ListN.{get_or}
-use Rattle.pieces.proofs.Unpacking.{piece_short, piece_long, halving_start, halving_next, high_zero, low_zero, halving_end}
+use lib.Dec.{leb}
+use lib.ListN.{length, get_or}
+use Rattle.std.proofs.Common.{rules}
+use Rattle.pieces.proofs.Unpacking.{piece_sized, halving_start, halving_next, high_zero, low_zero, halving_end}
 use Rattle.pieces.proofs.is_piece.Goals as goal
 
-pub returns-then-payload-lt1 : goal.returns-then-payload-lt1
-returns-then-payload-lt1 c =
-    sym (piece_short _ c.if-payload-lt1.true)
-
-pub returns-then-payload-gt64 : goal.returns-then-payload-gt64
-returns-then-payload-gt64 c =
-    sym (piece_long _ c.if-payload-lt1.false c.if-payload-gt64.true)
+pub returns-then-not-contains : goal.returns-then-not-contains
+returns-then-not-contains c =
+    let n = length c.args.payload.now in
+    let e : c.contains.result ≡ (leb 1 n && leb n 64) = search rules in
+    sym (piece_sized c.args.payload.now (sym e ∙ c.if-not-contains.true))
 
 pub loop-i-init : goal.loop-i-init
 loop-i-init c =
-    halving_start _ c.if-payload-lt1.false c.if-payload-gt64.false
+    let n = length c.args.payload.now in
+    let e : c.contains.result ≡ (leb 1 n && leb n 64) = search rules in
+    halving_start c.args.payload.now (sym e ∙ c.if-not-contains.false)
 
 pub returns-then-halves-eq0 : goal.returns-then-halves-eq0
 returns-then-halves-eq0 c =

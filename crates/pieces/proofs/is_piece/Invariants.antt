@@ -1,11 +1,6 @@
 -- As long as no half was 0, what is ahead has the answer; a low half that is 0 must be the last. Assumes nothing.
-use Prim.Native.Nat.{◌-◌}
-use lib.ListN.{length}
 use Rattle.pieces.proofs.Unpacking.{Halving}
 use Rattle.pieces.proofs.is_piece.Given as goal
 
 abbrev pub invariant-loop-i : goal.invariant-loop-i
 invariant-loop-i l = Halving l.payload l.i
-
-abbrev pub decreases-loop-i : goal.decreases-loop-i
-decreases-loop-i l = length l.payload - l.i

@@ -5,4 +5,4 @@ use Rattle.writers.proofs.write_end.Goals as goal
 pub returns : goal.returns
 unfolding end_line
 returns c =
-    record { value = c.write_line.ensures.value; out_after = c.write_line.ensures.out_after }
+    record { value = rw c.byte.ensures at c.write_line.ensures.value; out_after = rw c.byte.ensures at c.write_line.ensures.out_after }

@@ -4,6 +4,7 @@ use Prim.Native.Nat.{◌≤◌}
 use native.Mathlib.Omega.{arith}
 use lib.ListN.{length, take, replicate}
 use Rattle.payloads.specs.Pieces.{code_bytes}
+use Rattle.kinds.specs.Kind.{kind_byte}
 use Rattle.writers.proofs.Writers.{not_fitting, fitting}
 use Rattle.payloads.proofs.Pieces.{CodesFit, codes_parts, packed_front, packed_length}
 use Rattle.writers.proofs.write_piece_of.Goals as goal
@@ -31,11 +32,11 @@ returns-then-piece_fits c =
     let fits : CodesFit c.args.codes.now = codes_parts _ (sym c.piece_fits.ensures ∙ c.if-piece_fits.true) in
     let few : length (code_bytes c.args.codes.now) ≤ 64 = omega (arith, fits.few, (packed_length c.args.codes.now).1) in
     let front : take c.pack-n.result c.pack-n.new.payload ≡ code_bytes c.args.codes.now = packed_front _ (replicate 64 0) _ _ c.pack-n.ensures.value c.pack-n.ensures.payload_after few in
-    let both = fitting c.args.kind (code_bytes c.args.codes.now) _ c.args.out.now _ _ _ (sym c.piece_fits.ensures ∙ c.if-piece_fits.true) front
-    few c.write_line.ensures.value c.write_line.ensures.out_after in
+    let both = fitting (kind_byte c.args.kind) (code_bytes c.args.codes.now) _ c.args.out.now _ _ _ (sym c.piece_fits.ensures ∙ c.if-piece_fits.true) front
+    few (rw c.byte.ensures at c.write_line.ensures.value) (rw c.byte.ensures at c.write_line.ensures.out_after) in
     record { value = both.0; out_after = both.1 }
 
-pub returns : goal.returns
-returns c =
+pub returns-else-piece_fits : goal.returns-else-piece_fits
+returns-else-piece_fits c =
     let both = not_fitting _ c.args.out.now _ (sym c.piece_fits.ensures ∙ c.if-piece_fits.false) in
     record { value = both.0; out_after = both.1 }
