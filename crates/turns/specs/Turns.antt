@@ -2,9 +2,8 @@
 -- line adds. Assumes nothing.
 use Rattle.std.specs.Prelude.{Bool, cond, ◌&&◌, ◌||◌, List, ◌++◌, ℕ, eqb, leb, length, take, drop}
 use Rattle.rules.specs.declared.Settings.{Settings}
-use Rattle.decoding.specs.declared.Frame.{Frame}
 use Rattle.decoding.specs.Digits.{bytes_in}
-use Rattle.decoding.specs.Reading.{frame_in}
+use Rattle.decoding.specs.Reading.{Frame, frame_in}
 use Rattle.pieces.specs.Letters.{piece_number, letters_in}
 use Rattle.readers.specs.Readers.{job_in}
 

@@ -1,157 +1,117 @@
 // One line of the program's input, in its turn: what is wrong with it, and what a good one adds to what the lines before it have said.
 #![tactic(auto)]
 
-ghost use Rattle.std.specs.Prelude.{◌≡◌, ◌≤◌, length};
-ghost use Rattle.readers.specs.Readers.{strand_in};
-ghost use Rattle.turns.specs.Turns.{in_turn, frame_number};
-ghost use Rattle.turns.specs.States.{numbered, job_state, first_state, second_state, end_state, StateSafe, LineTaken};
+ghost use Rattle.std.specs.Prelude.{◌≡◌, ◌≤◌, length, IfOk};
+ghost use Rattle.lines.specs.Errors.{number_in};
+ghost use Rattle.readers.specs.Readers.{job_in};
+ghost use Rattle.turns.specs.Turns.{job_size, size_number};
+ghost use Rattle.turns.specs.States.{next_turn, StateSafe, LineTaken};
 
-use decoding::Frame;
-use pieces::Taken;
+use kinds::Kind;
+use lines::FrameError;
 use rules::Settings;
 
-// What the lines so far have said: the number of what is wrong with the last, whose turn it is, the settings and how many letters there are.
+// What may come next: the job; a piece of the first sequence, one of the second or the end; the same but for the first sequence; nothing.
+#[derive(Clone, Copy, Debug, PartialEq, Eq)]
+pub enum Turn {
+    Job,
+    First,
+    Second,
+    Ended,
+}
+
+impl Turn {
+    // 23 and 24: what may come after a frame of a kind. A job comes first, then pieces of the first sequence, those of the second and the end. Nothing comes
+    // after the end.
+    fn after(self, kind: Kind) -> Result<Turn, FrameError>
+        ensures { result ≡ next_turn self kind }
+    {
+        match (kind, self) {
+            (Kind::Job, Turn::Job) | (Kind::FirstPiece, Turn::First) => Ok(Turn::First),
+            (Kind::SecondPiece, Turn::First | Turn::Second) => Ok(Turn::Second),
+            (Kind::End, Turn::First | Turn::Second) => Ok(Turn::Ended),
+            (Kind::Job | Kind::FirstPiece | Kind::SecondPiece | Kind::End, _) => {
+                Err(FrameError::OutOfTurn)
+            }
+            _ => Err(FrameError::WrongKind),
+        }
+    }
+}
+
+// What the lines so far have said: what may come next, the settings and how many letters each sequence has.
 #[derive(Clone, Copy)]
 pub struct State {
-    pub number: u64,
-    pub turn: u64,
+    pub turn: Turn,
     pub settings: Settings,
     pub first: usize,
     pub second: usize,
 }
 
-// 24: a job comes first, then pieces of the first sequence, those of the second and the end. Nothing comes after the end.
-fn in_turn(turn: u64, kind: u8) -> bool
-    ensures { result ≡ in_turn turn kind }
-{
-    if kind == 1 {
-        return turn == 0;
-    }
-    if kind == 2 {
-        return turn == 1;
-    }
-    (turn == 1) | (turn == 2)
-}
-
-// 20 to 24: what is wrong with a line before its payload is looked at.
-fn frame_number(turn: u64, frame: Frame) -> u64
-    ensures { result ≡ frame_number turn frame }
-{
-    if frame.number != 0 {
-        return frame.number;
-    }
-    if (1 <= frame.kind) & (frame.kind <= 4) {
-        if in_turn(turn, frame.kind) {
-            return 0;
-        }
-        return 24;
-    }
-    23
-}
-
-// The state with what is wrong with the line that was read.
-fn number_state(mut s: State, number: u64) -> State
-    ensures { result ≡ numbered s number }
-{
-    s.number = number;
-    s
-}
-
-// The strand that a job of 8 payload bytes ends with. One of 7 is forward.
-fn strand_in(size: usize, bytes: &[u8]) -> u32
+// The settings of a job of so many payload bytes, which stand in the frame's bytes from place 2 on. One of 7 bytes is forward, and one of 8 ends with the
+// strand. A job frame means mask 0.
+#[tactic(auto, unfolding(crate::specs::Turns::job_size, crate::specs::Turns::size_number, readers::specs::Readers::job_in, readers::specs::Readers::strand_in))]
+fn settings_in(bytes: &[u8], size: usize) -> Result<Settings, FrameError>
     requires { 67 ≤ length bytes.now }
-    ensures { result ≡ strand_in size bytes.now }
+    ensures number { number_in result ≡ size_number (job_size size) }
+    ensures value { IfOk result (λ settings. settings ≡ job_in size bytes.now) }
 {
-    if size == 8 {
-        return payloads::number_at(bytes, 9, 1) as u32;
-    }
-    0
+    let strand = match size {
+        7 => 0,
+        8 => payloads::number_at(bytes, 9, 1) as u32,
+        _ => return Err(FrameError::WrongPayload),
+    };
+    Ok(Settings {
+        k: payloads::number_at(bytes, 2, 1) as u32,
+        b: payloads::number_at(bytes, 3, 2) as u32,
+        a: payloads::number_at(bytes, 5, 2) as u32,
+        m: payloads::number_at(bytes, 7, 2) as u32,
+        strand,
+        mask: 0,
+    })
 }
 
-// The state after a job, whose settings stand in the frame's bytes from place 2 on. A job frame means mask 0.
-fn job_state(s: State, bytes: &[u8], size: usize) -> State
-    requires { 67 ≤ length bytes.now }
-    ensures { result ≡ job_state s bytes.now size }
-{
-    if (size == 7) | (size == 8) {
-        let settings = Settings {
-            k: payloads::number_at(bytes, 2, 1) as u32,
-            b: payloads::number_at(bytes, 3, 2) as u32,
-            a: payloads::number_at(bytes, 5, 2) as u32,
-            m: payloads::number_at(bytes, 7, 2) as u32,
-            strand: strand_in(size, bytes),
-            mask: 0,
-        };
-        return State {
-            number: 0,
-            turn: 1,
-            settings,
-            first: s.first,
-            second: s.second,
-        };
-    }
-    number_state(s, 25)
-}
-
-// The state after a piece of the first sequence, which was taken or not.
-fn first_state(mut s: State, taken: Taken) -> State
-    ensures { result ≡ first_state s taken }
-{
-    s.number = taken.number;
-    if taken.number == 0 {
-        s.turn = 1;
-        s.first = taken.count;
-        return s;
-    }
-    s
-}
-
-// The state after a piece of the second sequence. Another of the first is then out of turn.
-fn second_state(mut s: State, taken: Taken) -> State
-    ensures { result ≡ second_state s taken }
-{
-    s.number = taken.number;
-    if taken.number == 0 {
-        s.turn = 2;
-        s.second = taken.count;
-        return s;
-    }
-    s
-}
-
-// The state after the end, which carries nothing.
-fn end_state(mut s: State, size: usize) -> State
-    ensures { result ≡ end_state s size }
-{
-    if size == 0 {
-        s.number = 0;
-        s.turn = 3;
-        return s;
-    }
-    s.number = 25;
-    s
-}
-
-// One line more. What it says is in the state and the letters; where it is wrong, both are as they were but for the number.
-pub fn take_line(line: &[u8], s: State, first: &mut [u8], second: &mut [u8]) -> State
+// One line more. What it says is in the state and the letters; where it is wrong, the letters are as they were.
+pub fn take_line(
+    line: &[u8],
+    s: State,
+    first: &mut [u8],
+    second: &mut [u8],
+) -> Result<State, FrameError>
     requires { StateSafe s first.old second.old }
     ensures { LineTaken line.now s first.old second.old result first.new second.new }
 {
     let mut bytes = [0u8; 67];
-    let frame = decoding::read_line(line, &mut bytes);
-    let number = frame_number(s.turn, frame);
-    if number != 0 {
-        return number_state(s, number);
+    let frame = decoding::read_line(line, &mut bytes)?;
+    let kind = Kind::try_from(frame.kind)?;
+    let turn = s.turn.after(kind)?;
+    let payload = &bytes[2..frame.size + 2];
+    match kind {
+        Kind::Job => {
+            let settings = settings_in(&bytes, frame.size)?;
+            Ok(State {
+                turn,
+                settings,
+                ..s
+            })
+        }
+        Kind::FirstPiece => {
+            let count = pieces::take_piece(payload, first, s.first)?;
+            Ok(State {
+                turn,
+                first: count,
+                ..s
+            })
+        }
+        Kind::SecondPiece => {
+            let count = pieces::take_piece(payload, second, s.second)?;
+            Ok(State {
+                turn,
+                second: count,
+                ..s
+            })
+        }
+        // an end carries nothing
+        _ if payload.is_empty() => Ok(State { turn, ..s }),
+        _ => Err(FrameError::WrongPayload),
     }
-    let end = frame.size + 2;
-    if frame.kind == 1 {
-        return job_state(s, &bytes, frame.size);
-    }
-    if frame.kind == 2 {
-        return first_state(s, pieces::take_piece(&bytes[2..end], first, s.first));
-    }
-    if frame.kind == 3 {
-        return second_state(s, pieces::take_piece(&bytes[2..end], second, s.second));
-    }
-    end_state(s, frame.size)
 }

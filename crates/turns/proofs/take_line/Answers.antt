@@ -1,100 +1,106 @@
--- Each way out is the line's kind, or what is wrong with it. Assumes nothing.
-use mathlib.Core.Path.{◌≡◌, sym, ap, ◌∙◌}
-use mathlib.Core.List.{List}
-use Prim.Native.Nat.{ℕ, ◌+◌, ◌-◌, ◌≤◌}
-use native.Mathlib.Omega.{arith}
-use lib.ListN.{take, drop, replicate}
-use Rattle.decoding.specs.declared.Frame.{Frame}
-use Rattle.decoding.specs.Reading.{frame_in, bytes_left}
-use Rattle.decoding.proofs.Frames.{count_most}
-use Rattle.turns.specs.declared.State.{State}
-use Rattle.turns.specs.Turns.{frame_number, payload_in}
-use Rattle.turns.specs.States.{StateSafe}
-use Rattle.turns.proofs.Taking.{line_refused, found, size_is, payload_is, job_taken, first_taken, second_taken, end_taken}
+-- Each way out is what is wrong with the line, or its kind. Assumes nothing.
+use Rattle.std.proofs.Common.{◌≡◌, ℕ, ◌+◌, ◌-◌, ◌≤◌, List, length, take, drop, replicate, sym, ap, ◌∙◌, arith, length-take, length-drop, eqb-true}
+use Rattle.std.proofs.lemmas.Bool.{eqb-false}
+use Rattle.std.proofs.lemmas.Result.{err_from_is_err_and}
+use Rattle.lines.specs.Errors.{number_of}
+use Rattle.kinds.specs.Kind.{kind_byte}
+use Rattle.turns.proofs.Numbering.{may_come, may_not_come, no_kind, after_job, after_first, after_second, after_end}
+use Rattle.turns.proofs.Taking.{line_refused, turn_refused, inside, payload_is, job_taken, job_refused, first_taken, first_refused, second_taken, second_refused, end_taken, end_refused}
 use Rattle.turns.proofs.take_line.Goals as goal
 
--- the frame that was read has the kind and the size of the line's
-module _ {frame of_line : Frame} (read : frame ≡ of_line) where
-  kind_is : frame.kind ≡ of_line.kind
-  kind_is = ap (λ (x : Frame). x.kind) read
+-- a payload of no bytes has size 0
+no_bytes : (size : ℕ) (bytes : List ℕ) → size + 2 ≤ length bytes → length (take (size + 2 - 2) (drop 2 bytes)) ≡ 0 → size ≡ 0
+no_bytes size bytes h e = omega (arith, length-take (size + 2 - 2) (drop 2 bytes), length-drop 2 bytes)
 
-  same_size : frame.size ≡ of_line.size
-  same_size = ap (λ (x : Frame). x.size) read
+some_bytes : (size : ℕ) (bytes : List ℕ) → (length (take (size + 2 - 2) (drop 2 bytes)) ≡ 0 → ⊥) → size ≡ 0 → ⊥
+some_bytes size bytes h e = h (omega (arith, length-take (size + 2 - 2) (drop 2 bytes)))
 
-  -- where the number of what is wrong with it is 0, that of the line's is 0
-  none_wrong : (turn : ℕ) {number : ℕ} → number ≡ frame_number turn frame → number ≡ 0 → frame_number turn of_line ≡ 0
-  none_wrong turn e z = sym (ap (frame_number turn) read) ∙ sym e ∙ z
+pub returns-in_err-frame : goal.returns-in_err-frame
+returns-in_err-frame c =
+    let p = err_from_is_err_and c.from_residual.result c.from_residual.ensures.1 in
+    rw (p.1, p.2) (line_refused _ c.args.s _ _ c.requires c.in_err-frame.ensures.value)
 
--- where nothing is wrong with a line, its payload lies within the bytes and stands there
-module _ (line : List ℕ) (s : State) (first second : List ℕ) (safe : StateSafe s first second) (right : frame_number s.turn (frame_in line) ≡ 0)
-    {size : ℕ} (size_as_read : size ≡ (frame_in line).size) where
-  inside : size + 2 ≤ 67
-  inside =
-      let m = size_is line s first second safe right in
-      let l = count_most line (found line s first second safe right).ok in
-      omega arith
+pub returns-in_err-kind : goal.returns-in_err-kind
+returns-in_err-kind c =
+    let p = err_from_is_err_and c.from_residual-in_err-kind.result c.from_residual-in_err-kind.ensures.1 in
+    let k = c.in_err-kind.ensures in
+    rw (p.1, p.2) (turn_refused _ c.args.s _ _ c.requires c.in_ok-frame.ensures.value (ap number_of k.0 ∙ no_kind _ _ k.1))
 
-  payload : (bytes : List ℕ) → bytes ≡ bytes_left line (replicate 67 0) → take (size + 2 - 2) (drop 2 bytes) ≡ payload_in line
-  payload bytes left =
-      let e : size + 2 - 2 ≡ (frame_in line).size = omega arith in
-      ap (λ (n : ℕ). take n (drop 2 bytes)) e ∙ payload_is line s first second safe right (replicate 67 0) bytes (omega arith) left
+pub returns-in_err-turn : goal.returns-in_err-turn
+returns-in_err-turn c =
+    let p = err_from_is_err_and c.from_residual-in_err-turn.result c.from_residual-in_err-turn.ensures.1 in
+    rw (p.1, p.2) (turn_refused _ c.args.s _ _ c.requires c.in_ok-frame.ensures.value (may_not_come c.args.s.turn _ c.in_ok-kind.ensures c.in_err-turn.ensures))
 
-pub returns-then-number-ne0 : goal.returns-then-number-ne0
-returns-then-number-ne0 c =
-    line_refused _ c.args.s _ _ c.requires _ _ (c.frame_number-number.ensures ∙ ap (frame_number c.args.s.turn) c.read_line-frame.ensures.value)
-    c.if-number-ne0.true c.number_state.ensures
+pub overflow_add-payload : goal.overflow_add-payload
+overflow_add-payload c =
+    let read = c.in_ok-frame.ensures.value in
+    let right = may_come c.args.s.turn c.in_ok-kind.kind c.in_ok-kind.ensures c.in_ok-turn.ensures in
+    omega (arith, inside _ c.args.s _ _ c.requires read right)
 
-pub overflow_add-end : goal.overflow_add-end
-overflow_add-end c =
-    let a = c.args in
-    let read = c.read_line-frame.ensures.value in
-    let right = none_wrong read a.s.turn c.frame_number-number.ensures c.if-number-ne0.false in
-    omega (arith, inside a.line.now a.s a.first.now a.second.now c.requires right (same_size read))
+pub slice_bounds-payload-end : goal.slice_bounds-payload-end
+slice_bounds-payload-end c =
+    let read = c.in_ok-frame.ensures.value in
+    let right = may_come c.args.s.turn c.in_ok-kind.kind c.in_ok-kind.ensures c.in_ok-turn.ensures in
+    omega (arith, inside _ c.args.s _ _ c.requires read right, c.read_line.auto)
 
-pub returns-then-frame-eq1 : goal.returns-then-frame-eq1
-returns-then-frame-eq1 c =
-    let a = c.args in
-    let read = c.read_line-frame.ensures.value in
-    let right = none_wrong read a.s.turn c.frame_number-number.ensures c.if-number-ne0.false in
-    job_taken _ a.s a.first.now a.second.now c.requires right (replicate 67 0) _ (omega arith) c.read_line-frame.ensures.bytes_after _ _
-    (sym (kind_is read) ∙ c.if-frame-eq1.true) (same_size read) c.job_state.ensures
+pub returns-in_err-settings-in-Job : goal.returns-in_err-settings-in-Job
+returns-in_err-settings-in-Job c =
+    let read = c.in_ok-frame.ensures.value in
+    let right = may_come c.args.s.turn c.in_ok-kind.kind c.in_ok-kind.ensures c.in_ok-turn.ensures in
+    let byte = sym c.in_ok-kind.ensures ∙ ap kind_byte c.in-Job.is in
+    let p = err_from_is_err_and c.from_residual-in_err-settings-in-Job.result c.from_residual-in_err-settings-in-Job.ensures.1 in
+    rw (p.1, p.2) (job_refused _ c.args.s _ _ c.requires read right byte c.in_err-settings-in-Job.ensures.number)
 
-pub slice_bounds-take_piece-end : goal.slice_bounds-take_piece-end
-slice_bounds-take_piece-end c =
-    let a = c.args in
-    let read = c.read_line-frame.ensures.value in
-    let right = none_wrong read a.s.turn c.frame_number-number.ensures c.if-number-ne0.false in
-    omega (arith, inside a.line.now a.s a.first.now a.second.now c.requires right (same_size read), c.read_line-frame.auto)
+pub returns-in_ok-settings-in-Job : goal.returns-in_ok-settings-in-Job
+returns-in_ok-settings-in-Job c =
+    let read = c.in_ok-frame.ensures.value in
+    let right = may_come c.args.s.turn c.in_ok-kind.kind c.in_ok-kind.ensures c.in_ok-turn.ensures in
+    let byte = sym c.in_ok-kind.ensures ∙ ap kind_byte c.in-Job.is in
+    job_taken _ c.args.s _ _ c.requires read right (replicate 67 0) _ (omega arith) c.read_line.ensures.bytes_after byte (after_job c.args.s.turn _ c.in-Job.is c.in_ok-turn.ensures) (sym c.in_ok-settings-in-Job.ensures.number) c.in_ok-settings-in-Job.ensures.value
 
-pub returns-then-frame-eq2 : goal.returns-then-frame-eq2
-returns-then-frame-eq2 c =
-    let a = c.args in
-    let read = c.read_line-frame.ensures.value in
-    let right = none_wrong read a.s.turn c.frame_number-number.ensures c.if-number-ne0.false in
-    let piece = payload a.line.now a.s a.first.now a.second.now c.requires right (same_size read) _ c.read_line-frame.ensures.bytes_after in
-    first_taken _ a.s a.first.now a.second.now c.requires right _ _ _ _ (sym (kind_is read) ∙ c.if-frame-eq2.true) piece
-    c.take_piece.ensures.value c.take_piece.ensures.letters_after c.first_state.ensures
+pub returns-in_err-count-in-FirstPiece : goal.returns-in_err-count-in-FirstPiece
+returns-in_err-count-in-FirstPiece c =
+    let read = c.in_ok-frame.ensures.value in
+    let right = may_come c.args.s.turn c.in_ok-kind.kind c.in_ok-kind.ensures c.in_ok-turn.ensures in
+    let byte = sym c.in_ok-kind.ensures ∙ ap kind_byte c.in-FirstPiece.is in
+    let p = err_from_is_err_and c.from_residual-in_err-count-in-FirstPiece.result c.from_residual-in_err-count-in-FirstPiece.ensures.1 in
+    rw (p.1, p.2) (first_refused _ c.args.s _ _ c.requires read right byte (payload_is _ c.args.s _ _ c.requires read right (replicate 67 0) _ (omega arith) c.read_line.ensures.bytes_after) c.in_err-count-in-FirstPiece.ensures.value c.in_err-count-in-FirstPiece.ensures.letters_after)
 
-pub slice_bounds-take_piece-end-then-frame-eq3 : goal.slice_bounds-take_piece-end-then-frame-eq3
-slice_bounds-take_piece-end-then-frame-eq3 c =
-    let a = c.args in
-    let read = c.read_line-frame.ensures.value in
-    let right = none_wrong read a.s.turn c.frame_number-number.ensures c.if-number-ne0.false in
-    omega (arith, inside a.line.now a.s a.first.now a.second.now c.requires right (same_size read), c.read_line-frame.auto)
+pub returns-in_ok-count-in-FirstPiece : goal.returns-in_ok-count-in-FirstPiece
+returns-in_ok-count-in-FirstPiece c =
+    let read = c.in_ok-frame.ensures.value in
+    let right = may_come c.args.s.turn c.in_ok-kind.kind c.in_ok-kind.ensures c.in_ok-turn.ensures in
+    let byte = sym c.in_ok-kind.ensures ∙ ap kind_byte c.in-FirstPiece.is in
+    first_taken _ c.args.s _ _ c.requires read right byte (after_first c.args.s.turn _ c.in-FirstPiece.is c.in_ok-turn.ensures) (payload_is _ c.args.s _ _ c.requires read right (replicate 67 0) _ (omega arith) c.read_line.ensures.bytes_after) c.in_ok-count-in-FirstPiece.ensures.value c.in_ok-count-in-FirstPiece.ensures.letters_after
 
-pub returns-then-frame-eq3 : goal.returns-then-frame-eq3
-returns-then-frame-eq3 c =
-    let a = c.args in
-    let read = c.read_line-frame.ensures.value in
-    let right = none_wrong read a.s.turn c.frame_number-number.ensures c.if-number-ne0.false in
-    let piece = payload a.line.now a.s a.first.now a.second.now c.requires right (same_size read) _ c.read_line-frame.ensures.bytes_after in
-    second_taken _ a.s a.first.now a.second.now c.requires right _ _ _ _ (sym (kind_is read) ∙ c.if-frame-eq3.true) piece
-    c.take_piece-then-frame-eq3.ensures.value c.take_piece-then-frame-eq3.ensures.letters_after c.second_state.ensures
+pub returns-in_err-count-in-SecondPiece : goal.returns-in_err-count-in-SecondPiece
+returns-in_err-count-in-SecondPiece c =
+    let read = c.in_ok-frame.ensures.value in
+    let right = may_come c.args.s.turn c.in_ok-kind.kind c.in_ok-kind.ensures c.in_ok-turn.ensures in
+    let byte = sym c.in_ok-kind.ensures ∙ ap kind_byte c.in-SecondPiece.is in
+    let p = err_from_is_err_and c.from_residual-in_err-count-in-SecondPiece.result c.from_residual-in_err-count-in-SecondPiece.ensures.1 in
+    rw (p.1, p.2) (second_refused _ c.args.s _ _ c.requires read right byte (payload_is _ c.args.s _ _ c.requires read right (replicate 67 0) _ (omega arith) c.read_line.ensures.bytes_after) c.in_err-count-in-SecondPiece.ensures.value c.in_err-count-in-SecondPiece.ensures.letters_after)
 
-pub returns : goal.returns
-returns c =
-    let a = c.args in
-    let read = c.read_line-frame.ensures.value in
-    let right = none_wrong read a.s.turn c.frame_number-number.ensures c.if-number-ne0.false in
-    end_taken _ a.s a.first.now a.second.now c.requires right _ _ (λ k. c.if-frame-eq1.false (kind_is read ∙ k))
-    (λ k. c.if-frame-eq2.false (kind_is read ∙ k)) (λ k. c.if-frame-eq3.false (kind_is read ∙ k)) (same_size read) c.end_state.ensures
+pub returns-in_ok-count-in-SecondPiece : goal.returns-in_ok-count-in-SecondPiece
+returns-in_ok-count-in-SecondPiece c =
+    let read = c.in_ok-frame.ensures.value in
+    let right = may_come c.args.s.turn c.in_ok-kind.kind c.in_ok-kind.ensures c.in_ok-turn.ensures in
+    let byte = sym c.in_ok-kind.ensures ∙ ap kind_byte c.in-SecondPiece.is in
+    second_taken _ c.args.s _ _ c.requires read right byte (after_second c.args.s.turn _ c.in-SecondPiece.is c.in_ok-turn.ensures) (payload_is _ c.args.s _ _ c.requires read right (replicate 67 0) _ (omega arith) c.read_line.ensures.bytes_after) c.in_ok-count-in-SecondPiece.ensures.value c.in_ok-count-in-SecondPiece.ensures.letters_after
+
+pub returns-in_default : goal.returns-in_default
+returns-in_default c =
+    let read = c.in_ok-frame.ensures.value in
+    let right = may_come c.args.s.turn c.in_ok-kind.kind c.in_ok-kind.ensures c.in_ok-turn.ensures in
+    let d = c.in_default in
+    let end = after_end c.args.s.turn _ c.in_ok-turn.ensures d.not-Job d.not-FirstPiece d.not-SecondPiece in
+    let none = no_bytes c.in_ok-frame.frame.size c.read_line.new.bytes (omega (arith, inside _ c.args.s _ _ c.requires read right, c.read_line.auto)) (eqb-true _ _ (sym c.is_empty.ensures ∙ c.if-is_empty.true)) in
+    end_taken _ c.args.s _ _ c.requires read right (sym c.in_ok-kind.ensures ∙ end.0) end.1 none
+
+pub returns-in_default-2 : goal.returns-in_default-2
+returns-in_default-2 c =
+    let read = c.in_ok-frame.ensures.value in
+    let right = may_come c.args.s.turn c.in_ok-kind.kind c.in_ok-kind.ensures c.in_ok-turn.ensures in
+    let d = c.in_default in
+    let end = after_end c.args.s.turn _ c.in_ok-turn.ensures d.not-Job d.not-FirstPiece d.not-SecondPiece in
+    end_refused _ c.args.s _ _ c.requires read right (sym c.in_ok-kind.ensures ∙ end.0) (some_bytes c.in_ok-frame.frame.size c.read_line.new.bytes (eqb-false _ _ (sym c.is_empty.ensures ∙ c.if-is_empty.false)))
