@@ -11,8 +11,9 @@ use lib.ListN.{length, take, drop, length-append, length-take, length-drop, leng
 use lib.Seq.{take-nil, take-take, length-take-le}
 use borrow.Author.Tests.{eqb-true, eqb-false, leb-true, leb-false}
 use Rattle.rules.specs.Letters.{letter_of}
+use Rattle.decoding.specs.Digits.{is_line}
 use Rattle.decoding.specs.Reading.{refused_frame, frame_in}
-use Rattle.decoding.proofs.Decoding.{line_long, line_parts, bytes_length}
+use Rattle.decoding.proofs.Decoding.{line_parts, bytes_length}
 use Rattle.decoding.proofs.Frames.{frame_read}
 use Rattle.payloads.specs.Pieces.{codes_in}
 use Rattle.pieces.specs.Letters.{is_piece, piece_number, letters_in}
@@ -196,9 +197,16 @@ module _ (p : Progress) (l : List ℕ) (sm : Small p) (g : Good p l) where
       go false false false x y w = end_step x y w
 
 -- what is too long is no line
+no_line : (l : List ℕ) → 135 < length l → is_line l ≡ false
+no_line l h = go (is_line l) refl
+  where
+    go : (t : Bool) → is_line l ≡ t → is_line l ≡ false
+    go true e = absurd (omega (arith, (line_parts l e).most))
+    go false e = e
+
 long_line : (p : Progress) (l : List ℕ) → 135 < length l → line_number p l ≡ 20
 unfolding line_number frame_number frame_in refused_frame
-long_line p l h = rw (line_long l (omega arith) h)
+long_line p l h = rw (no_line l h)
 
 -- ---- the whole input
 

@@ -3,3 +3,4 @@ pub mod Reading
 pub mod RoundTrip
 pub mod Cutting
 pub mod Letters
+pub mod Unique

@@ -1,44 +1,12 @@
 -- The lines of an input, taken one by one: the first ends with its line feed or with the input, and the others are those of what is left. Assumes nothing.
-use mathlib.Core.Path.{◌≡◌, refl}
-use mathlib.Core.Bool.{Bool, true, false}
-use mathlib.Core.List.{List, [], ◌∷◌}
-use Prim.Native.Nat.{ℕ, suc, ◌+◌, ◌<◌, ◌≤◌}
-use native.Mathlib.Omega.{arith}
-use native.Mathlib.Numerals.{add-one}
-use lib.Dec.{eqb}
-use lib.ListN.{length, get_or, take, drop, drop_of_length-le}
-use lib.Seq.{drop-cons}
-use borrow.Author.Tests.{eq-eqb, ne_eqb}
+use Rattle.std.proofs.Common.{◌≡◌, ℕ, zero, suc, ◌+◌, ◌<◌, min, Bool, true, false, eqb, List, [], ◌∷◌, ◌++◌, length, take, drop, refl, sym, ap, ◌∙◌, arith, length-drop}
+use lib.Seq.{take_at, drop_at}
+use Rattle.std.specs.List.{IsFirstMatchOrLen}
 use Rattle.input.specs.Lines.{add_to, lines_of, line_size}
 
--- no line feed was passed since the line began
-pub record Ending (input : List ℕ) (at end : ℕ) : Type 0 where
-  pub within : end ≤ length input
-  pub ahead : at + line_size (drop at input) ≡ end + line_size (drop end input)
-
-pub ending_start : (input : List ℕ) (at : ℕ) → at ≤ length input → Ending input at at
-ending_start input at h = record { within = h; ahead = refl }
-
-pub ending_next : (input : List ℕ) (at end : ℕ) → end < length input → (get_or input end 0 ≡ 10 → ⊥) → Ending input at end → Ending input at (end + 1)
-unfolding line_size
-ending_next input at end h n r =
-    let e : line_size (drop end input) ≡ suc (line_size (drop (end + 1) input)) =
-    rw (drop-cons input end 0 h, add-one end) (rw (ne_eqb (get_or input end 0) 10 n)) in
-    record { within = omega arith; ahead = omega (arith, r.ahead) }
-
-pub ending_feed : (input : List ℕ) (at end : ℕ) → end < length input → get_or input end 0 ≡ 10 → Ending input at end
-    → (end + 1 ≡ at + line_size (drop at input)) × (end + 1 ≤ length input)
-unfolding line_size
-ending_feed input at end h n r =
-    let e : line_size (drop end input) ≡ 1 = rw (drop-cons input end 0 h) (rw (eq-eqb (get_or input end 0) 10 n)) in
-    (omega (arith, r.ahead), omega arith)
-
-pub ending_end : (input : List ℕ) (at end : ℕ) → length input ≤ end → Ending input at end
-    → (end ≡ at + line_size (drop at input)) × (end ≤ length input)
-unfolding line_size
-ending_end input at end h r =
-    let e : line_size (drop end input) ≡ 0 = rw (drop_of_length-le input h) in
-    (omega (arith, r.ahead), r.within)
+pub empty : (s : List ℕ) → length s ≡ 0 → s ≡ []
+empty [] h = refl
+empty (b ∷ bs) h = absurd (omega arith)
 
 -- ---- the first line and the rest
 
@@ -61,3 +29,37 @@ first_line (b ∷ bs) h = go (eqb b 10) refl bs (first_line bs)
     go true e r ih = rw e
     go false e [] ih = rw e
     go false e (x ∷ xs) ih = rw e (rw (ih (omega arith)))
+
+-- ---- cut at the first line feed
+
+-- the first line, and what is left
+pub record Cut (s this next : List ℕ) : Type 0 where
+  pub first : this ≡ take (line_size s) s
+  pub rest : next ≡ drop (line_size s) s
+  pub joined : s ≡ this ++ next
+
+-- a line ends behind its line feed
+feed_ends : (s : List ℕ) (i : ℕ) → IsFirstMatchOrLen (λ b. eqb b 10) s i → line_size s ≡ min (i + 1) (length s)
+unfolding line_size
+feed_ends [] i f = omega arith
+feed_ends (b ∷ bs) zero f = let e : eqb b 10 ≡ true = f.1 (omega arith) 0 in rw e (omega arith)
+feed_ends (b ∷ bs) (suc i) f =
+    let e : eqb b 10 ≡ false = f.0 0 0 (omega arith) (omega arith) in
+    let l = feed_ends bs i (λ k d a b. f.0 (suc k) d (omega arith) (omega arith), λ a d. f.1 (omega arith) d) in
+    rw e (omega arith)
+
+pub cut_of : {s this next : List ℕ} {i : ℕ} → s ≡ this ++ next → length this ≡ min (i + 1) (length s) → IsFirstMatchOrLen (λ b. eqb b 10) s i → Cut s this next
+cut_of {s} {this} {next} {i} e l f =
+    let n : length this ≡ line_size s = l ∙ sym (feed_ends s i f) in
+    record {
+      first = sym (take_at this next (line_size s) n) ∙ ap (take (line_size s)) (sym e);
+      rest = sym (drop_at this next (line_size s) n) ∙ ap (drop (line_size s)) (sym e);
+      joined = e;
+    }
+
+module _ {s this next : List ℕ} (some : 0 < length s) (c : Cut s this next) where
+  pub cut_lines : lines_of s ≡ this ∷ lines_of next
+  cut_lines = rw (c.first, c.rest) (first_line s some)
+
+  pub cut_shorter : length next < length s
+  cut_shorter = omega (arith, ap length c.rest, length-drop (line_size s) s, size_some s some)

@@ -1,10 +1,12 @@
 -- Document 01, "Frames": "Input: one job, any number of 02, any number of 03, one end.", and its refusals, "with sequence 0 and as detail the line
 -- counted from 1; the first bad line decides". Assumes nothing.
-use Rattle.std.specs.Prelude.{cond, List, [], ◌∷◌, ℕ, suc, eqb, length}
+use Rattle.std.specs.Prelude.{cond, List, [], ◌∷◌, ℕ, suc, eqb, length, Result, Ok, Err}
 use Rattle.rules.specs.declared.Settings.{Settings}
 use Rattle.rules.specs.Entered.{settings}
 use Rattle.turns.specs.Turns.{Progress, line_number, after}
-use Rattle.input.specs.declared.InputRead.{InputRead}
+use Rattle.lines.specs.Errors.{number_of}
+use Rattle.input.specs.declared.Input.{Input}
+use Rattle.input.specs.declared.BadLine.{BadLine}
 use Rattle.input.specs.Lines.{lines_of}
 
 unfoldable pub no_settings : Settings
@@ -13,6 +15,14 @@ no_settings = settings 0 0 0 0 0 0
 unfoldable pub nothing_yet : Progress
 unfolding no_settings
 nothing_yet = record { turn = 0; settings = no_settings; first = []; second = [] }
+
+-- what the reader answers, by document 01's numbers: 0, the settings and how many letters each sequence has; or what is wrong and in which line
+pub record InputRead : Type 0 where
+  pub number : ℕ
+  pub line : ℕ
+  pub settings : Settings
+  pub first : ℕ
+  pub second : ℕ
 
 -- what the reader answers, and the letters of both sequences that it has read
 pub record Outcome : Type 0 where
@@ -23,6 +33,12 @@ pub record Outcome : Type 0 where
 unfoldable pub refused_input : ℕ → ℕ → InputRead
 unfolding no_settings
 refused_input number line = record { number = number; line = line; settings = no_settings; first = 0; second = 0 }
+
+-- what is read, or what is wrong, by these numbers
+unfoldable pub input_read : Result Input BadLine → InputRead
+unfolding refused_input
+input_read (Ok r) = record { number = 0; line = 0; settings = r.settings; first = r.first; second = r.second }
+input_read (Err b) = refused_input (number_of b.error) b.line
 
 unfoldable pub stopped : ℕ → ℕ → Progress → Outcome
 unfolding refused_input

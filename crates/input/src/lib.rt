@@ -1,104 +1,69 @@
 // The program's input: one job, any number of pieces of the first sequence, any number of the second, one end.
 #![tactic(auto)]
 
-ghost use Rattle.std.specs.Prelude.{◌≡◌, ◌+◌, ◌≤◌, length, drop};
+ghost use Rattle.std.specs.Prelude.{◌≡◌, ◌≤◌, length};
 ghost use Rattle.lines.specs.Writing.{in_front};
-ghost use Rattle.input.specs.Lines.{line_size};
-ghost use Rattle.input.specs.Grammar.{no_settings, refused_input, input_of};
+ghost use Rattle.input.specs.Grammar.{input_read, input_of};
 
+use lines::FrameError;
 use rules::Settings;
-use turns::State;
+use turns::{State, Turn};
 
-// What the reader answers: 0, the settings and how many letters each sequence has; or what is wrong and in which line, counted from 1.
-#[derive(Drop)]
-pub struct InputRead {
-    pub number: u64,
-    pub line: u64,
+// What a good input says: the settings and how many letters each sequence has.
+#[derive(Clone, Copy)]
+pub struct Input {
     pub settings: Settings,
     pub first: usize,
     pub second: usize,
 }
 
-// Where the line that starts at a place ends, its line feed with it.
-fn line_end(input: &[u8], at: usize) -> usize
-    requires { at ≤ length input.now }
-    ensures { (result ≡ at + line_size (drop at input.now)) × (result ≤ length input.now) }
-{
-    let mut end = at;
-    while end < input.len() {
-        if input[end] == b'\n' {
-            return end + 1;
-        }
-        end += 1;
-    }
-    end
+// What is wrong with another, and in which line, counted from 1.
+#[derive(Clone, Copy, Debug, PartialEq, Eq)]
+pub struct BadLine {
+    pub line: u64,
+    pub error: FrameError,
 }
 
-// The settings of an input that gives none.
-fn no_settings() -> Settings
-    ensures { result ≡ no_settings }
-{
-    Settings {
+// What is said before the first line.
+const NOTHING_YET: State = State {
+    turn: Turn::Job,
+    settings: Settings {
         k: 0,
         b: 0,
         a: 0,
         m: 0,
         strand: 0,
         mask: 0,
-    }
-}
-
-// What is wrong and in which line, and nothing of what the lines before it have said.
-fn refuse(number: u64, line: u64) -> InputRead
-    ensures { result ≡ refused_input number line }
-{
-    let settings = no_settings();
-    InputRead {
-        number,
-        line,
-        settings,
-        first: 0,
-        second: 0,
-    }
-}
+    },
+    first: 0,
+    second: 0,
+};
 
 // Reads a whole input. The letters of the two sequences stand in front of the lent buffers, where the input is wrong those of the good lines before the
 // first bad one.
-pub fn read_input(input: &[u8], first: &mut [u8], second: &mut [u8]) -> InputRead
+pub fn read_input(input: &[u8], first: &mut [u8], second: &mut [u8]) -> Result<Input, BadLine>
     requires in_bounds { 16384 ≤ length first.old }
     requires in_bounds_2 { 16384 ≤ length second.old }
-    ensures value { result ≡ (input_of input.now).answer }
+    ensures value { input_read result ≡ (input_of input.now).answer }
     ensures first_after { first.new ≡ in_front (input_of input.now).first first.old }
     ensures second_after { second.new ≡ in_front (input_of input.now).second second.old }
 {
-    let settings = no_settings();
-    let mut s = State {
-        number: 0,
-        turn: 0,
-        settings,
-        first: 0,
-        second: 0,
-    };
-    let mut at: usize = 0;
-    let mut line: u64 = 0;
-    while at < input.len() {
-        let end = line_end(input, at);
+    let mut s = NOTHING_YET;
+    let mut line = 1;
+    for text in input.split_inclusive(|byte| *byte == b'\n') {
+        s = turns::take_line(text, s, first, second).map_err(|error| BadLine { line, error })?;
         line += 1;
-        s = turns::take_line(&input[at..end], s, first, second);
-        if s.number != 0 {
-            return refuse(s.number, line);
-        }
-        at = end;
     }
-    if s.turn != 3 {
-        return refuse(24, line + 1);
-    }
-    let read = s.settings;
-    InputRead {
-        number: 0,
-        line: 0,
-        settings: read,
-        first: s.first,
-        second: s.second,
+    if s.turn == Turn::Ended {
+        Ok(Input {
+            settings: s.settings,
+            first: s.first,
+            second: s.second,
+        })
+    } else {
+        Err(BadLine {
+            line,
+            error: FrameError::OutOfTurn,
+        })
     }
 }
