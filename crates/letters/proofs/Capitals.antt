@@ -4,7 +4,6 @@ use mathlib.Core.Path.{◌≡◌, sym, ap, ◌∙◌}
 use mathlib.Core.Bool.{Bool, false, cond}
 use mathlib.Core.List.{List}
 use mathlib.Core.Logic.{◌⊎◌, inl, inr}
-use native.Mathlib.Omega.{arith}
 use Prim.Native.Nat.{ℕ, ◌-◌, ◌<◌, ◌≤◌}
 use lib.Bits.{bit_and, bit_or}
 use lib.Dec.{eqb, ltb, eqb→eq}
@@ -19,10 +18,10 @@ use Rattle.rules.proofs.Computed.{at_each, same_test}
 
 module _ (table : List ℕ) (x : ℕ) where
   -- below A, or above Z
-  pub other : (x < 65) ⊎ (90 < x) → 0 ≡ at_capital table x
+  pub other : (x < 65) ⊎ ((65 ≤ x) × (90 < x)) → 0 ≡ at_capital table x
   unfolding at_capital
   other (inl l) = rw (lt-ltb x 65 l)
-  other (inr l) = rw (le-ltb x 65 (omega arith), lt-ltb 90 x l)
+  other (inr l) = rw (le-ltb x 65 l.0, lt-ltb 90 x l.1)
 
   pub capital : 65 ≤ x → x ≤ 90 → get_or table (x - 65) 0 ≡ at_capital table x
   unfolding at_capital

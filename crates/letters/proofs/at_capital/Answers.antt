@@ -1,12 +1,13 @@
 -- A capital is looked up, and any other byte has nothing. Assumes nothing.
+use native.Mathlib.Omega.{arith}
 use Rattle.letters.proofs.Capitals.{capital, other}
 use Rattle.letters.proofs.at_capital.Goals as goal
 
-pub returns-then-is_ascii_uppercase : goal.returns-then-is_ascii_uppercase
-returns-then-is_ascii_uppercase c =
-    let h = c.if-is_ascii_uppercase.ensures.cases in
-    rw c.from.ensures (capital c.args.table.now c.args.byte h.0 h.1)
+pub returns-then-byte-gt90 : goal.returns-then-byte-gt90
+returns-then-byte-gt90 c =
+    other c.args.table.now c.args.byte c.if-byte-gt90.either
 
-pub returns-else-is_ascii_uppercase : goal.returns-else-is_ascii_uppercase
-returns-else-is_ascii_uppercase c =
-    other c.args.table.now c.args.byte c.if-is_ascii_uppercase.ensures.cases
+pub returns-else-byte-gt90 : goal.returns-else-byte-gt90
+returns-else-byte-gt90 c =
+    let h = c.if-byte-gt90.false in
+    rw c.from.ensures (capital c.args.table.now c.args.byte (omega arith) (omega arith))

@@ -1,8 +1,8 @@
--- The table is the list of the codes of the capitals. Assumes nothing.
+-- The table that it lays out is the list of the codes of the capitals. Assumes nothing.
+use mathlib.Core.Path.{◌∙◌}
 use borrow.Author.Rules.{rules}
 use Rattle.letters.specs.Capitals.{capital_codes}
 use Rattle.letters.proofs.Capitals.{folded, coded_right}
-use mathlib.Core.Path.{◌∙◌}
 use Rattle.letters.proofs.code.Goals as goal
 
 pub returns : goal.returns

@@ -1,6 +1,6 @@
 -- Either way out is right by the rule at this byte. Assumes nothing.
-use borrow.Author.Rules.{rules}
 use mathlib.Core.Path.{refl}
+use borrow.Author.Rules.{rules}
 use Rattle.letters.specs.Capitals.{capital_codes}
 use Rattle.letters.proofs.Capitals.{folded, read_none, read_one}
 use Rattle.letters.proofs.read_letter.Goals as goal
