@@ -1,6 +1,6 @@
 -- What is written is read back: a line gives its payload, and each number of it stands where it was put. So no two values have the same line. Assumes nothing.
 use mathlib.Core.Path.{◌≡◌, refl, sym, ap, ◌∙◌}
-use mathlib.Core.Bool.{true, ◌&&◌}
+use mathlib.Core.Bool.{Bool, true, ◌&&◌}
 use mathlib.Core.List.{List, [], ◌∷◌, ◌++◌}
 use Prim.Native.Nat.{ℕ, ◌+◌, ◌^◌, ◌<◌, ◌≤◌}
 use native.Mathlib.Omega.{arith}
@@ -20,7 +20,9 @@ use Rattle.payloads.specs.Numbers.{number_bytes, number_at}
 use Rattle.payloads.specs.Pieces.{code_bytes, codes_in, codes_fit}
 use Rattle.kinds.specs.Kinds.{job_numbers, job_payload, job_fits, job_line, piece_line, entry_payload, entry_fits, entry_line, reverse_line, done_payload, done_fits, done_line, refused_payload, refused_fits, refused_line}
 use Rattle.payloads.specs.Lines.{kind_number}
-use Rattle.readers.specs.Readers.{EntryRead, DoneRead, RefusedRead, strand_in, job_in, entry_in, done_in, refused_in, read_entry_of, read_entry, read_reverse, read_done, read_refused}
+use Rattle.kinds.specs.Carried.{Carries}
+use Rattle.kinds.specs.Laws.{entry_bytes, entry_carries, done_carries, refused_carries}
+use Rattle.readers.specs.Readers.{EntryRead, DoneRead, RefusedRead, strand_in, job_in, read_entry_of, read_entry, read_reverse, read_done, read_refused}
 use Rattle.payloads.proofs.Numbers.{number_bytes_lem, number_back}
 use Rattle.payloads.proofs.Pieces.{codes_parts, packed_length, packed_are_bytes, codes_back}
 use Rattle.kinds.proofs.Jobs.{job_bytes, JobForm, forward, stranded, job_form, job_few, job_are_bytes}
@@ -112,61 +114,25 @@ piece_unique s x t y l m h g e =
     let u = line_unique (1 + s) (code_bytes x) (1 + t) (code_bytes y) a c (packed_are_bytes x p.are) b d (packed_are_bytes y q.are) e in
     (omega (arith, u.0), sym (piece_codes x h) ∙ ap codes_in u.1 ∙ piece_codes y g)
 
+-- ---- values
+
+-- values that fit are read back from their line: it has the kind and the size, and they stand in its bytes
+values_back : {S : Type 0} {size : ℕ} {fits : S → Bool} {payload : S → List ℕ} {values : List ℕ → S} {held : S → Type 0}
+    → Carries size fits payload values held → (kind : ℕ) (x : S) → kind < 256 → held x → fits x ≡ true
+    → (kind_number kind size (line_of kind (payload x)) ≡ 0) × (values (bytes_in (line_of kind (payload x))) ≡ x)
+values_back {size = size} {payload = payload} {values = values} laws kind x k l h =
+    let few : length (payload x) ≤ 64 = omega (arith, laws.sized x, laws.few) in (
+      kind_written kind size (payload x) k few (laws.bytes x) (laws.sized x),
+      ap values (line_bytes kind (payload x) k few (laws.bytes x)) ∙ laws.back kind x l h,
+    )
+
 -- ---- entries
-
-record EntryFits (x : Entry) : Type 0 where
-  first_start : x.first.start < 65536
-  first_end : x.first.end < 65536
-  second_start : x.second.start < 65536
-  second_end : x.second.end < 65536
-  weight_fits : x.weight < 65536
-
-entry_parts : (x : Entry) → entry_fits x ≡ true → EntryFits x
-unfolding entry_fits
-entry_parts x h =
-    let a = ltb x.first.start 65536 in
-    let b = ltb x.first.end 65536 in
-    let c = ltb x.second.start 65536 in
-    let d = ltb x.second.end 65536 in
-    let e = ltb x.weight 65536 in
-    let abcd = and_left (a && b && c && d) e h in
-    let abc = and_left (a && b && c) d abcd in
-    let ab = and_left (a && b) c abc in
-    record {
-      first_start = ltb-true x.first.start 65536 (and_left a b ab);
-      first_end = ltb-true x.first.end 65536 (and_right a b ab);
-      second_start = ltb-true x.second.start 65536 (and_right (a && b) c abc);
-      second_end = ltb-true x.second.end 65536 (and_right (a && b && c) d abcd);
-      weight_fits = ltb-true x.weight 65536 (and_right (a && b && c && d) e h);
-    }
-
-entry_bytes : (x : Entry) → Bytes (entry_payload x)
-unfolding entry_payload
-entry_bytes x =
-    bytes_append (bytes_append (bytes_append (bytes_append (number_bytes_lem 2 x.first.start) (number_bytes_lem 2 x.first.end))
-    (number_bytes_lem 2 x.second.start)) (number_bytes_lem 2 x.second.end)) (number_bytes_lem 2 x.weight)
-
-entry_frame : (kind : ℕ) (x : Entry) → entry_fits x ≡ true → entry_in (frame_of kind (entry_payload x)) ≡ x
-unfolding entry_in frame_of entry_payload number_bytes
-entry_frame kind x h =
-    let f = frame_of kind (entry_payload x) in
-    let p = entry_parts x h in
-    let a : number_at f 2 2 ≡ x.first.start = number_back (take 2 f) (drop 4 f) 2 x.first.start p.first_start in
-    let b : number_at f 4 2 ≡ x.first.end = number_back (take 4 f) (drop 6 f) 2 x.first.end p.first_end in
-    let c : number_at f 6 2 ≡ x.second.start = number_back (take 6 f) (drop 8 f) 2 x.second.start p.second_start in
-    let d : number_at f 8 2 ≡ x.second.end = number_back (take 8 f) (drop 10 f) 2 x.second.end p.second_end in
-    let e : number_at f 10 2 ≡ x.weight = number_back (take 10 f) (drop 12 f) 2 x.weight p.weight_fits in
-    rw (a, b, c, d, e)
 
 -- what the writer of either strand's entries writes, its reader reads back
 kind_round_trip : (kind : ℕ) (x : Entry) → kind < 256 → entry_fits x ≡ true
     → read_entry_of kind (line_of kind (entry_payload x)) ≡ record { number = 0; sequence = 0; detail = 0; entry = x }
-unfolding read_entry_of entry_payload number_bytes
-kind_round_trip kind x k h =
-    let b = entry_bytes x in
-    let z = kind_written kind 10 (entry_payload x) k (lit< tt) b refl in
-    let e : entry_in (bytes_in (line_of kind (entry_payload x))) ≡ x = ap entry_in (line_bytes kind (entry_payload x) k (lit< tt) b) ∙ entry_frame kind x h in
-    rw z (rw e)
+unfolding read_entry_of
+kind_round_trip kind x k h = let p = values_back entry_carries kind x k tt h in rw p.0 (rw p.1)
 
 kind_unique : (kind : ℕ) (x y : Entry) → kind < 256 → entry_fits x ≡ true → entry_fits y ≡ true
     → line_of kind (entry_payload x) ≡ line_of kind (entry_payload y) → x ≡ y
@@ -199,49 +165,10 @@ strands_apart x y e =
 
 -- ---- done
 
-record DoneFits (x : Done) : Type 0 where
-  listed_fits : x.listed < 4294967296
-  matches_fit : x.matches < 4294967296
-  widest_fits : x.widest < 4294967296
-
-done_parts : (x : Done) → done_fits x ≡ true → DoneFits x
-unfolding done_fits
-done_parts x h =
-    let a = ltb x.listed 4294967296 in
-    let b = ltb x.matches 4294967296 in
-    let c = ltb x.widest 4294967296 in
-    let ab = and_left (a && b) c h in
-    record {
-      listed_fits = ltb-true x.listed 4294967296 (and_left a b ab);
-      matches_fit = ltb-true x.matches 4294967296 (and_right a b ab);
-      widest_fits = ltb-true x.widest 4294967296 (and_right (a && b) c h);
-    }
-
-done_bytes : (x : Done) → Bytes (done_payload x)
-unfolding done_payload
-done_bytes x =
-    bytes_append (bytes_append (bytes_append (number_bytes_lem 4 x.listed) (number_bytes_lem 4 x.matches)) (number_bytes_lem 4 x.widest))
-    (number_bytes_lem 8 x.links)
-
-done_frame : (x : Done) → done_fits x ≡ true → x.links < 2 ^ 64 → done_in (frame_of 17 (done_payload x)) ≡ x
-unfolding done_in frame_of done_payload number_bytes
-done_frame x h l =
-    let f = frame_of 17 (done_payload x) in
-    let p = done_parts x h in
-    let a : number_at f 2 4 ≡ x.listed = number_back (take 2 f) (drop 6 f) 4 x.listed p.listed_fits in
-    let b : number_at f 6 4 ≡ x.matches = number_back (take 6 f) (drop 10 f) 4 x.matches p.matches_fit in
-    let c : number_at f 10 4 ≡ x.widest = number_back (take 10 f) (drop 14 f) 4 x.widest p.widest_fits in
-    let d : number_at f 14 8 ≡ x.links = number_back (take 14 f) (drop 22 f) 8 x.links l in
-    rw (a, b, c, d)
-
 -- what the writer writes, the reader reads back
 pub done_round_trip : (x : Done) → done_fits x ≡ true → x.links < 2 ^ 64 → read_done (done_line x) ≡ record { number = 0; sequence = 0; detail = 0; done = x }
-unfolding read_done done_line done_payload number_bytes
-done_round_trip x h l =
-    let b = done_bytes x in
-    let z = kind_written 17 20 (done_payload x) (lit< tt) (lit< tt) b refl in
-    let e : done_in (bytes_in (done_line x)) ≡ x = ap done_in (line_bytes 17 (done_payload x) (lit< tt) (lit< tt) b) ∙ done_frame x h l in
-    rw z (rw e)
+unfolding read_done done_line
+done_round_trip x h l = let p = values_back done_carries 17 x (lit< tt) l h in rw p.0 (rw p.1)
 
 pub done_unique : (x y : Done) → done_fits x ≡ true → done_fits y ≡ true → x.links < 2 ^ 64 → y.links < 2 ^ 64 → done_line x ≡ done_line y → x ≡ y
 done_unique x y h g k l e =
@@ -250,47 +177,10 @@ done_unique x y h g k l e =
 
 -- ---- refused
 
-record RefusedFits (x : Refused) : Type 0 where
-  number_fits : x.number < 256
-  sequence_fits : x.sequence < 256
-  detail_fits : x.detail < 4294967296
-
-refused_parts : (x : Refused) → refused_fits x ≡ true → RefusedFits x
-unfolding refused_fits
-refused_parts x h =
-    let a = ltb x.number 256 in
-    let b = ltb x.sequence 256 in
-    let c = ltb x.detail 4294967296 in
-    let ab = and_left (a && b) c h in
-    record {
-      number_fits = ltb-true x.number 256 (and_left a b ab);
-      sequence_fits = ltb-true x.sequence 256 (and_right a b ab);
-      detail_fits = ltb-true x.detail 4294967296 (and_right (a && b) c h);
-    }
-
-refused_bytes : (x : Refused) → Bytes (refused_payload x)
-unfolding refused_payload
-refused_bytes x =
-    bytes_append (bytes_append (number_bytes_lem 1 x.number) (number_bytes_lem 1 x.sequence)) (number_bytes_lem 4 x.detail)
-
-refused_frame : (x : Refused) → refused_fits x ≡ true → refused_in (frame_of 31 (refused_payload x)) ≡ x
-unfolding refused_in frame_of refused_payload number_bytes
-refused_frame x h =
-    let f = frame_of 31 (refused_payload x) in
-    let p = refused_parts x h in
-    let a : number_at f 2 1 ≡ x.number = number_back (take 2 f) (drop 3 f) 1 x.number p.number_fits in
-    let b : number_at f 3 1 ≡ x.sequence = number_back (take 3 f) (drop 4 f) 1 x.sequence p.sequence_fits in
-    let c : number_at f 4 4 ≡ x.detail = number_back (take 4 f) (drop 8 f) 4 x.detail p.detail_fits in
-    rw (a, b, c)
-
 -- what the writer writes, the reader reads back
 pub refused_round_trip : (x : Refused) → refused_fits x ≡ true → read_refused (refused_line x) ≡ record { number = 0; sequence = 0; detail = 0; refused = x }
-unfolding read_refused refused_line refused_payload number_bytes
-refused_round_trip x h =
-    let b = refused_bytes x in
-    let z = kind_written 31 6 (refused_payload x) (lit< tt) (lit< tt) b refl in
-    let e : refused_in (bytes_in (refused_line x)) ≡ x = ap refused_in (line_bytes 31 (refused_payload x) (lit< tt) (lit< tt) b) ∙ refused_frame x h in
-    rw z (rw e)
+unfolding read_refused refused_line
+refused_round_trip x h = let p = values_back refused_carries 31 x (lit< tt) tt h in rw p.0 (rw p.1)
 
 pub refused_unique : (x y : Refused) → refused_fits x ≡ true → refused_fits y ≡ true → refused_line x ≡ refused_line y → x ≡ y
 refused_unique x y h g e =

@@ -9,6 +9,7 @@ use Rattle.kinds.specs.declared.Done.{Done}
 use Rattle.kinds.specs.declared.Refused.{Refused}
 use Rattle.lines.specs.declared.error.FrameError.{FrameError}
 use Rattle.lines.specs.Errors.{number_of}
+use Rattle.kinds.specs.Carried.{entry_in, done_in, refused_in}
 use Rattle.payloads.specs.Numbers.{number_at}
 use Rattle.payloads.specs.Lines.{kind_number}
 
@@ -24,24 +25,6 @@ unfoldable pub job_in : ℕ → List ℕ → Settings
 unfolding number_at strand_in
 job_in size bytes =
     settings (number_at bytes 2 1) (number_at bytes 3 2) (number_at bytes 5 2) (number_at bytes 7 2) (strand_in size bytes) 0
-
-unfoldable pub entry_in : List ℕ → Entry
-unfolding number_at
-entry_in bytes =
-    record {
-      first = record { start = number_at bytes 2 2; end = number_at bytes 4 2 };
-      second = record { start = number_at bytes 6 2; end = number_at bytes 8 2 };
-      weight = number_at bytes 10 2;
-    }
-
-unfoldable pub done_in : List ℕ → Done
-unfolding number_at
-done_in bytes =
-    record { listed = number_at bytes 2 4; matches = number_at bytes 6 4; widest = number_at bytes 10 4; links = number_at bytes 14 8 }
-
-unfoldable pub refused_in : List ℕ → Refused
-unfolding number_at
-refused_in bytes = record { number = number_at bytes 2 1; sequence = number_at bytes 3 1; detail = number_at bytes 4 4 }
 
 -- ---- all values 0
 

@@ -5,9 +5,9 @@ ghost use Rattle.std.specs.Prelude.{◌≡◌, true, ◌&&◌, leb, length};
 ghost use Rattle.lines.specs.Writing.{line_of, written, written_of, leaves};
 ghost use Rattle.payloads.specs.Pieces.{code_bytes, codes_fit};
 ghost use Rattle.kinds.specs.Kind.{kind_byte};
-ghost use Rattle.kinds.specs.Kinds.{job_fits, job_line, piece_line, end_line, entry_payload, entry_fits, entry_line, reverse_line, done_fits, done_line, refused_fits, refused_line};
+ghost use Rattle.kinds.specs.Kinds.{job_fits, job_line, piece_line, end_line, entry_fits, entry_line, reverse_line, done_fits, done_line, refused_fits, refused_line};
 
-use kinds::{Done, Entry, Kind, Refused};
+use kinds::{Done, Entry, Kind, Refused, Values};
 use lines::FrameError;
 use rules::Settings;
 
@@ -38,13 +38,16 @@ pub fn write_job(job: Settings, out: &mut [u8]) -> Result<usize, FrameError>
     write_fitting(kinds::job_fits(job), Kind::Job, &payload[..size], out)
 }
 
-// An entry of the kind that tells its strand.
-fn write_entry_of(kind: Kind, entry: Entry, out: &mut [u8]) -> Result<usize, FrameError>
-    ensures value { written_of result ≡ written (entry_fits entry) (line_of (kind_byte kind) (entry_payload entry)) out.old }
-    ensures out_after { out.new ≡ leaves (entry_fits entry) (line_of (kind_byte kind) (entry_payload entry)) out.old }
+// A frame of a kind, which carries values.
+fn write_values<const N: usize, V: Values<N>>(
+    kind: Kind,
+    values: V,
+    out: &mut [u8],
+) -> Result<usize, FrameError>
+    ensures value { written_of result ≡ written (V.fit values) (line_of (kind_byte kind) (V.bytes_of values)) out.old }
+    ensures out_after { out.new ≡ leaves (V.fit values) (line_of (kind_byte kind) (V.bytes_of values)) out.old }
 {
-    let payload = kinds::entry_payload(entry);
-    write_fitting(kinds::entry_fits(entry), kind, &payload, out)
+    write_fitting(values.fits(), kind, &values.payload(), out)
 }
 
 // A forward entry.
@@ -52,7 +55,7 @@ pub fn write_entry(entry: Entry, out: &mut [u8]) -> Result<usize, FrameError>
     ensures value { written_of result ≡ written (entry_fits entry) (entry_line entry) out.old }
     ensures out_after { out.new ≡ leaves (entry_fits entry) (entry_line entry) out.old }
 {
-    write_entry_of(Kind::Entry, entry, out)
+    write_values(Kind::Entry, entry, out)
 }
 
 // A reverse entry.
@@ -60,7 +63,7 @@ pub fn write_reverse_entry(entry: Entry, out: &mut [u8]) -> Result<usize, FrameE
     ensures value { written_of result ≡ written (entry_fits entry) (reverse_line entry) out.old }
     ensures out_after { out.new ≡ leaves (entry_fits entry) (reverse_line entry) out.old }
 {
-    write_entry_of(Kind::ReverseEntry, entry, out)
+    write_values(Kind::ReverseEntry, entry, out)
 }
 
 // What a job that was done comes to.
@@ -68,8 +71,7 @@ pub fn write_done(done: Done, out: &mut [u8]) -> Result<usize, FrameError>
     ensures value { written_of result ≡ written (done_fits done) (done_line done) out.old }
     ensures out_after { out.new ≡ leaves (done_fits done) (done_line done) out.old }
 {
-    let payload = kinds::done_payload(done);
-    write_fitting(kinds::done_fits(done), Kind::Done, &payload, out)
+    write_values(Kind::Done, done, out)
 }
 
 // A refusal.
@@ -77,8 +79,7 @@ pub fn write_refused(refused: Refused, out: &mut [u8]) -> Result<usize, FrameErr
     ensures value { written_of result ≡ written (refused_fits refused) (refused_line refused) out.old }
     ensures out_after { out.new ≡ leaves (refused_fits refused) (refused_line refused) out.old }
 {
-    let payload = kinds::refused_payload(refused);
-    write_fitting(kinds::refused_fits(refused), Kind::Refused, &payload, out)
+    write_values(Kind::Refused, refused, out)
 }
 
 // An end fits wherever its line does.

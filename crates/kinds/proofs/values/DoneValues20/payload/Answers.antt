@@ -2,7 +2,7 @@
 use mathlib.Core.Path.{◌∙◌}
 use Rattle.kinds.specs.Kinds.{done_payload}
 use Rattle.payloads.specs.Numbers.{number_bytes}
-use Rattle.kinds.proofs.done_payload.Goals as goal
+use Rattle.kinds.proofs.values.DoneValues20.payload.Goals as goal
 
 pub returns : goal.returns
 unfolding done_payload number_bytes

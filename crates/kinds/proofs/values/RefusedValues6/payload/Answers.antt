@@ -2,7 +2,7 @@
 use mathlib.Core.Path.{◌∙◌}
 use Rattle.kinds.specs.Kinds.{refused_payload}
 use Rattle.payloads.specs.Numbers.{number_bytes}
-use Rattle.kinds.proofs.refused_payload.Goals as goal
+use Rattle.kinds.proofs.values.RefusedValues6.payload.Goals as goal
 
 pub returns : goal.returns
 unfolding refused_payload number_bytes

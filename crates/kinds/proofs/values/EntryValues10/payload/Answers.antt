@@ -2,7 +2,7 @@
 use mathlib.Core.Path.{◌∙◌}
 use Rattle.kinds.specs.Kinds.{entry_payload}
 use Rattle.payloads.specs.Numbers.{number_bytes}
-use Rattle.kinds.proofs.entry_payload.Goals as goal
+use Rattle.kinds.proofs.values.EntryValues10.payload.Goals as goal
 
 pub returns : goal.returns
 unfolding entry_payload number_bytes
