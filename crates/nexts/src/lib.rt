@@ -27,10 +27,8 @@ pub fn link_columns(
     ensures next_columns { NextColumns second.now nexts.old nexts.new }
     ensures tallied { Tallied own.now (length second.now) a count.old count.new }
 {
-    let mut p = second.len();
-    while 0 < p {
-        p -= 1;
-        let e = numbers::wide(own[p]);
+    for p in (0..second.len()).rev() {
+        let e = own[p] as usize;
         if e == 0 {
             nexts[p] = 0;
         } else {

@@ -1,7 +1,7 @@
 -- Owners set to 0: a row whose count had passed a before it, while rows are counted, and every row whose count has passed a at the end.
 -- Assumes nothing.
 use mathlib.Core.Path.{◌≡◌, refl, sym, ◌∙◌}
-use mathlib.Core.Bool.{Bool, true, false, cond}
+use mathlib.Core.Bool.{Bool, true, false, cond, ◌||◌}
 use mathlib.Core.List.{List}
 use mathlib.Core.Logic.{⊎_elim}
 use Prim.Native.Nat.{ℕ, suc, ◌+◌, ◌-◌, ◌<◌, ◌≤◌, min}
@@ -73,6 +73,12 @@ module _ {f : ℕ → ℕ} {l₀ l : List ℕ} {n r : ℕ} (e : r ≡ get_or l n
   }
 
 -- ---- while rows are counted
+
+pub or_cond : (before here : Bool) → (before || here) ≡ cond here true before
+or_cond true true = refl
+or_cond true false = refl
+or_cond false true = refl
+or_cond false false = refl
 
 -- the first n rows are counted; `late` says whether a k-mer has passed a at one of them
 pub record RowsCounted (a : ℕ) (firsts₀ count₀ firsts count : List ℕ) (late : Bool) (n : ℕ) : Type 0 where

@@ -9,20 +9,7 @@ pub fn count_on(v: u32, a: u32) -> u32
     requires { v ≤ 32767 }
     ensures { result ≡ count_on a v }
 {
-    if v <= a {
-        return v + 1;
-    }
-    v
-}
-
-// Whether a k-mer passes a at this row, where its count was v, or one did so before.
-fn passes(before: bool, v: u32, a: u32) -> bool
-    ensures { result ≡ cond (eqb v a) true before }
-{
-    if v == a {
-        return true;
-    }
-    before
+    if v <= a { v + 1 } else { v }
 }
 
 // Each k-mer's count over the first n rows too, which makes it the total. A row whose k-mer has passed a before is set to 0 at once, and nothing of
@@ -38,19 +25,16 @@ pub fn count_rows(firsts: &mut [u32], n: usize, a: u32, count: &mut [u32]) -> bo
     ensures one_passes { result ≡ true → OnePasses a count.old count.new }
 {
     let mut late = false;
-    let mut j = 0;
-    while j < n {
-        let i = j;
-        let e = numbers::wide(firsts[i]);
-        j += 1;
+    for row in 0..n {
+        let e = firsts[row] as usize;
         if 0 < e {
             let q = e - 1;
             let v = count[q];
             if a < v {
-                firsts[i] = 0;
+                firsts[row] = 0;
             } else {
                 count[q] = v + 1;
-                late = passes(late, v, a);
+                late |= v == a;
             }
         }
     }
@@ -63,16 +47,10 @@ pub fn cap(count: &[u32], a: u32, firsts: &mut [u32], n: usize)
     requires upto { Upto firsts.old n (length count.now) }
     ensures { Capped count.now a firsts.old firsts.new n }
 {
-    let mut j = 0;
-    while j < n {
-        let i = j;
-        let e = numbers::wide(firsts[i]);
-        j += 1;
-        if 0 < e {
-            let q = e - 1;
-            if a < count[q] {
-                firsts[i] = 0;
-            }
+    for row in 0..n {
+        let e = firsts[row] as usize;
+        if 0 < e && a < count[e - 1] {
+            firsts[row] = 0;
         }
     }
 }

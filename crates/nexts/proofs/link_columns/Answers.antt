@@ -1,4 +1,4 @@
-use mathlib.Core.Path.{◌≡◌}
+use mathlib.Core.Path.{◌≡◌, refl}
 use mathlib.Core.List.{List}
 use Prim.Native.Nat.{ℕ, ◌-◌, ◌<◌, ◌≤◌}
 use native.Mathlib.Omega.{arith}
@@ -26,11 +26,10 @@ module _ {second own tail₀ tail nexts₀ nexts : List ℕ} {k r : ℕ} (linkin
 pub loop-p-preserved-then-e-eq0 : goal.loop-p-preserved-then-e-eq0
 loop-p-preserved-then-e-eq0 c =
     let asked = c.requires in
-    let read = c.wide-e.ensures.0 in
     let i = c.loop-p.invariant in
     let none = c.if-e-eq0.true in (
-      linking_skip (c.loop-p.p - 1) (omega arith) asked.second_in_bounds_2 asked.second_in_bounds_4 asked.owns read i.0 none,
-      from_skip (c.loop-p.p - 1) (omega arith) (omega arith) read i.1 none,
+      linking_skip (c.loop-p.p - 1) (omega arith) asked.second_in_bounds_2 asked.second_in_bounds_4 asked.owns refl i.0 none,
+      from_skip (c.loop-p.p - 1) (omega arith) (omega arith) refl i.1 none,
     )
 
 pub bounds-tail-q : goal.bounds-tail-q
@@ -48,17 +47,16 @@ bounds-count-q-else-e-eq0 c = search (rules, count_there)
 pub count_on-requires : goal.count_on-requires
 count_on-requires c =
     let asked = c.requires in
-    from_small (c.loop-p.p - 1) (omega arith) (omega arith) c.wide-e.ensures.0 c.loop-p.invariant.1 c.if-e-eq0.false (search (rules, count_there))
+    from_small (c.loop-p.p - 1) (omega arith) (omega arith) refl c.loop-p.invariant.1 c.if-e-eq0.false (search (rules, count_there))
     asked.zeros_2 asked.second_len_bound
 
 pub loop-p-preserved : goal.loop-p-preserved
 loop-p-preserved c =
     let asked = c.requires in
-    let read = c.wide-e.ensures.0 in
     let i = c.loop-p.invariant in
     let some = c.if-e-eq0.false in (
-      linking_next (c.loop-p.p - 1) (omega arith) asked.second_in_bounds_2 asked.second_in_bounds_4 asked.owns read i.0 some (omega arith),
-      rw c.count_on.ensures (from_next (c.loop-p.p - 1) (omega arith) (omega arith) read i.1 some (search (rules, count_there))),
+      linking_next (c.loop-p.p - 1) (omega arith) asked.second_in_bounds_2 asked.second_in_bounds_4 asked.owns refl i.0 some (omega arith),
+      rw c.count_on.ensures (from_next (c.loop-p.p - 1) (omega arith) (omega arith) refl i.1 some (search (rules, count_there))),
     )
 
 pub returns-clause-tallied : goal.returns-clause-tallied

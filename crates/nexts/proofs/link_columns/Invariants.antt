@@ -7,6 +7,3 @@ use Rattle.nexts.proofs.link_columns.Given as goal
 
 abbrev pub invariant-loop-p : goal.invariant-loop-p
 invariant-loop-p l = Linking l.second l.initial.tail l.tail l.initial.nexts l.nexts l.p × TalliedFrom l.own (length l.second) l.p l.a l.initial.count l.count
-
-abbrev pub decreases-loop-p : goal.decreases-loop-p
-decreases-loop-p l = l.p

@@ -1,16 +1,16 @@
 use native.Mathlib.Omega.{arith}
-use borrow.Author.Rules.{rules}
+use mathlib.Core.Path.{refl}
 use Rattle.totals.proofs.Striking.{capped_none, capped_used, capped_unused}
 use Rattle.totals.proofs.cap.Goals as goal
+use Rattle.totals.proofs.cap.Goals.{then-e-gt0+then-a-count, else-e-gt0, else-e-gt0-via-then-e-gt0+else-a-count, else-e-gt0-via-else-e-gt0}
 
-pub loop-j-preserved-then-a-count : goal.loop-j-preserved-then-a-count
-loop-j-preserved-then-a-count c =
-    (search rules, capped_unused c.wide-e.ensures.0 c.loop-j.invariant.1 (omega arith) (omega arith))
-
-pub loop-j-preserved-else-a-count : goal.loop-j-preserved-else-a-count
-loop-j-preserved-else-a-count c =
-    (search rules, capped_used c.wide-e.ensures.0 c.loop-j.invariant.1 (omega arith))
-
-pub loop-j-preserved : goal.loop-j-preserved
-loop-j-preserved c =
-    (search rules, capped_none c.wide-e.ensures.0 c.loop-j.invariant.1 c.if-e-gt0.false)
+pub loop-row-preserved : goal.loop-row-preserved
+loop-row-preserved c =
+    let so_far = c.loop-row.invariant in
+    elim c.if-e-gt0.branch [
+      | then-e-gt0+then-a-count w ↦ rw w.firsts-is (capped_unused refl so_far (omega arith) w.if-a-count.true)
+      | else-e-gt0 w ↦ rw w.firsts-is (elim w.else-e-gt0.branch [
+        | else-e-gt0-via-then-e-gt0+else-a-count w' ↦ capped_used refl so_far w'.if-a-count.false
+        | else-e-gt0-via-else-e-gt0 w' ↦ capped_none refl so_far w'.if-e-gt0.false
+      ])
+    ]

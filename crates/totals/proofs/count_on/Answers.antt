@@ -7,6 +7,6 @@ pub returns-then-v-a : goal.returns-then-v-a
 returns-then-v-a c =
     count_below (omega arith)
 
-pub returns : goal.returns
-returns c =
+pub returns-else-v-a : goal.returns-else-v-a
+returns-else-v-a c =
     count_above (omega arith)
