@@ -3,7 +3,7 @@ use Rattle.std.proofs.Common.{◌≡◌, ℕ, ◌+◌, ◌%◌, ◌<◌, ◌≤�
 use lib.Seq.{sets}
 use Rattle.decoding.specs.Digits.{is_line, bytes_in}
 use Rattle.lines.specs.Writing.{byte_sum}
-use Rattle.decoding.specs.Reading.{Frame, refused_frame, frame_from, frame_in, bytes_left}
+use Rattle.decoding.specs.Reading.{refused_frame, frame_from, frame_in, bytes_left}
 use Rattle.decoding.proofs.Decoding.{line_parts, bytes_length, byte_at}
 
 pub no_line : (line old : List ℕ) → is_line line ≡ false → (refused_frame 20 ≡ frame_in line) × (old ≡ bytes_left line old)

@@ -2,9 +2,11 @@
 
 ghost use Rattle.std.specs.Prelude.{◌≡◌};
 ghost use Rattle.lines.specs.Errors.{number_of};
+ghost use Rattle.lines.specs.declared.error.FrameError.TheVariants.{DoesNotFit};
 
 use std::error::Error;
 use std::fmt;
+use std::num::TryFromIntError;
 
 // Document 01's 20 to 27, in its order.
 #[derive(Clone, Copy, Debug, PartialEq, Eq)]
@@ -53,3 +55,12 @@ impl fmt::Display for FrameError {
 }
 
 impl Error for FrameError {}
+
+// A number that its type does not hold fits no field.
+impl From<TryFromIntError> for FrameError {
+    ghost from_gives = { λ _ e. e ≡ DoesNotFit };
+
+    fn from(_e: TryFromIntError) -> Self {
+        Self::DoesNotFit
+    }
+}

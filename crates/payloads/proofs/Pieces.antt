@@ -1,15 +1,14 @@
 -- Codes in pieces: they are looked at one by one and packed two by two, what is ahead being still to come, and unpacked they are the same. Assumes nothing.
 use mathlib.Core.Path.{◌≡◌, refl, sym, ap, subst, ◌∙◌}
-use mathlib.Core.Bool.{Bool, true, false, ◌&&◌}
+use mathlib.Core.Bool.{Bool, true, ◌&&◌}
 use mathlib.Core.List.{List, [], ◌∷◌}
 use Prim.Native.Nat.{ℕ, zero, suc, ◌+◌, ◌*◌, ◌/◌, ◌%◌, ◌<◌, ◌≤◌}
 use native.Mathlib.Omega.{arith}
-use native.Mathlib.Numerals.{add-one}
 use Rattle.std.specs.List.{list_all}
 use lib.Dec.{leb}
 use lib.ListN.{length, get_or, take, drop, set, length-set, drop_of_length-le}
 use lib.Seq.{sets, take_at, drop-cons, drop-drop, get_or-drop}
-use borrow.Author.Tests.{le-leb, lt-leb, leb-true, ne_eqb}
+use borrow.Author.Tests.{leb-true, ne_eqb}
 use Rattle.decoding.proofs.Decoding.{and_left, and_right}
 use Rattle.lines.proofs.Storing.{sets_front}
 use Rattle.decoding.proofs.RoundTrip.{Bytes, none, more}

@@ -8,7 +8,7 @@ use native.Mathlib.Numerals.{add-one}
 use lib.Dec.{eqb, leb}
 use lib.ListN.{length, get_or, drop, set, length-map, length-append, length-drop, drop_of_length-le}
 use lib.Seq.{sets, length-sets, drop-cons}
-use borrow.Author.Tests.{le-leb, lt-leb, leb-true, eq-eqb, ne_eqb, eqb-true, eqb-false}
+use borrow.Author.Tests.{le-leb, leb-true, eq-eqb, ne_eqb, eqb-true, eqb-false}
 use Rattle.rules.specs.Letters.{letter_of}
 use Rattle.decoding.proofs.Decoding.{and_left, and_right}
 use Rattle.lines.proofs.Storing.{sets_append}

@@ -12,7 +12,6 @@ use Rattle.decoding.specs.Digits.{is_line, bytes_in}
 use Rattle.decoding.specs.Reading.{frame_in, bytes_left}
 use Rattle.decoding.proofs.Decoding.{byte_at}
 use Rattle.decoding.proofs.Frames.{count_most, frame_read}
-use Rattle.payloads.specs.Numbers.{number_at}
 use Rattle.payloads.specs.Lines.{kind_number}
 use Rattle.std.proofs.Common.{Result, Ok, Err, IfOk}
 use Rattle.lines.specs.declared.error.FrameError.{FrameError}
@@ -23,7 +22,6 @@ use Rattle.kinds.specs.declared.Done.{Done}
 use Rattle.kinds.specs.declared.Refused.{Refused}
 use Rattle.kinds.specs.Carried.{entry_in, done_in, refused_in}
 use Rattle.readers.specs.Readers.{entry_numbered, done_numbered, refused_numbered, read_entry_of, read_done, read_refused}
-use Rattle.payloads.proofs.Numbers.{number_same}
 
 -- what is known of a line that has its kind
 record KindRead (kind size : ℕ) (line : List ℕ) : Type 0 where

@@ -12,18 +12,18 @@ use Rattle.rules.specs.Entered.{settings}
 use Rattle.decoding.specs.Digits.{bytes_in}
 use Rattle.lines.specs.Writing.{check_of, frame_of, line_of}
 use Rattle.decoding.proofs.Decoding.{and_left, and_right}
-use Rattle.decoding.proofs.RoundTrip.{Bytes, bytes_append, line_bytes, line_read, line_unique}
+use Rattle.decoding.proofs.RoundTrip.{Bytes, line_bytes, line_read, line_unique}
 use Rattle.kinds.specs.declared.Entry.{Entry}
 use Rattle.kinds.specs.declared.Done.{Done}
 use Rattle.kinds.specs.declared.Refused.{Refused}
 use Rattle.payloads.specs.Numbers.{number_bytes, number_at}
 use Rattle.payloads.specs.Pieces.{code_bytes, codes_in, codes_fit}
-use Rattle.kinds.specs.Kinds.{job_numbers, job_payload, job_fits, job_line, piece_line, entry_payload, entry_fits, entry_line, reverse_line, done_payload, done_fits, done_line, refused_payload, refused_fits, refused_line}
+use Rattle.kinds.specs.Kinds.{job_numbers, job_payload, job_fits, job_line, piece_line, entry_payload, entry_fits, entry_line, reverse_line, done_fits, done_line, refused_fits, refused_line}
 use Rattle.payloads.specs.Lines.{kind_number}
 use Rattle.kinds.specs.Carried.{Carries}
 use Rattle.kinds.specs.Laws.{entry_bytes, entry_carries, done_carries, refused_carries}
 use Rattle.readers.specs.Readers.{EntryRead, DoneRead, RefusedRead, strand_in, job_in, read_entry_of, read_entry, read_reverse, read_done, read_refused}
-use Rattle.payloads.proofs.Numbers.{number_bytes_lem, number_back}
+use Rattle.payloads.proofs.Numbers.{number_back}
 use Rattle.payloads.proofs.Pieces.{codes_parts, packed_length, packed_are_bytes, codes_back}
 use Rattle.kinds.proofs.Jobs.{job_bytes, JobForm, forward, stranded, job_form, job_few, job_are_bytes}
 
