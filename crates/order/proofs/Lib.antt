@@ -1,6 +1,5 @@
 pub mod Cases
 pub mod Counts
-pub mod Heads
-pub mod Runs
+pub mod Sorting
 pub mod Places
 pub mod Unique
