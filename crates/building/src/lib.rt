@@ -27,8 +27,7 @@ fn build_codes(codes: &[u64], index: &mut [u32]) -> Answer
     ensures { left_index result index.new ≡ building_index codes.now index.old }
 {
     let mut order = [0u32; 16384];
-    let mut spare = [0u32; 16384];
-    let n = order::sort_places(codes, &mut order, &mut spare);
+    let n = order::sort_places(codes, &mut order);
     if index.len() < n {
         rooms::zero_all(index);
         return answers::refuse(11, 0, n as u64);

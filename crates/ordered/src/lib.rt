@@ -71,8 +71,7 @@ pub fn own_by_order(first: &[u64], second: &[u64], own: &mut [u32], heads: &mut 
     ensures owned_2 { Owned second.now first.now heads.old heads.new (length first.now) }
 {
     let mut order = [0u32; 16384];
-    let mut spare = [0u32; 16384];
-    let m = order::sort_places(second, &mut order, &mut spare);
+    let m = order::sort_places(second, &mut order);
     owners_by_order(second, second, &order, m, own);
     owners_by_order(first, second, &order, m, heads);
 }
