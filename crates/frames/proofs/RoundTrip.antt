@@ -7,7 +7,7 @@ use native.Mathlib.Omega.{arith}
 use lib.Dec.{eqb, leb}
 use lib.ListN.{length, get_or, take, drop, drop_of_length-le}
 use lib.Seq.{take_at, drop-cons}
-use borrow.Author.Tests.{eq-eqb, eqb-true}
+use borrow.Author.Tests.{eqb-true}
 use Rattle.rules.specs.Lists.{then_zeros}
 use Rattle.lines.specs.Writing.{is_written, written, in_front, leaves}
 use Rattle.decoding.proofs.Decoding.{and_left}
@@ -92,7 +92,7 @@ module _ (v : List ℕ) where
   entry_back : Back 16
   entry_back h =
       let l = entry_count h in
-      let w = is_entry 16 v (eq-eqb (length v) 5 l) refl in
+      let w = is_entry v refl l refl in
       rw w (reads_entry (entry_line (entry_of v)) ∙ rw (entry_round_trip (entry_of v) (rw w at h), entry_values_lem v l))
 
   done_count : (frame_wanted 17 v).fits ≡ true → length v ≡ 4
@@ -103,7 +103,7 @@ module _ (v : List ℕ) where
   unfolding done_of
   done_back k h =
       let l = done_count h in
-      let w = is_done 17 v (eq-eqb (length v) 4 l) refl in
+      let w = is_done v refl l refl in
       rw w (reads_done (done_line (done_of v)) ∙ rw (done_round_trip (done_of v) (rw w at h) k, done_values_lem v l))
 
   reverse_count : (frame_wanted 18 v).fits ≡ true → length v ≡ 5
@@ -113,7 +113,7 @@ module _ (v : List ℕ) where
   reverse_back : Back 18
   reverse_back h =
       let l = reverse_count h in
-      let w = is_reverse 18 v (eq-eqb (length v) 5 l) refl in
+      let w = is_reverse v refl l refl in
       rw w (reads_reverse (reverse_line (entry_of v)) ∙ rw (reverse_round_trip (entry_of v) (rw w at h), entry_values_lem v l))
 
   refused_count : (frame_wanted 31 v).fits ≡ true → length v ≡ 3
@@ -123,7 +123,7 @@ module _ (v : List ℕ) where
   refused_back : Back 31
   refused_back h =
       let l = refused_count h in
-      let w = is_refused 31 v (eq-eqb (length v) 3 l) refl in
+      let w = is_refused v refl l refl in
       rw w (reads_refused (refused_line (refused_of v)) ∙ rw (refused_round_trip (refused_of v) (rw w at h), refused_values_lem v l))
 
 -- ---- all of them

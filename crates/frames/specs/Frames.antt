@@ -4,8 +4,7 @@ use Rattle.std.specs.Prelude.{Bool, true, false, cond, ◌&&◌, ◌||◌, List,
 use Rattle.rules.specs.declared.Settings.{Settings}
 use Rattle.rules.specs.Lists.{then_zeros}
 use Rattle.rules.specs.Entered.{settings}
-use Rattle.lines.specs.declared.Written.{Written}
-use Rattle.lines.specs.Writing.{written, leaves}
+use Rattle.lines.specs.Writing.{Written, written, leaves}
 use Rattle.payloads.specs.Pieces.{codes_fit}
 use Rattle.kinds.specs.declared.Entry.{Entry}
 use Rattle.kinds.specs.declared.Done.{Done}

@@ -1,5 +1,5 @@
 -- Values taken for those of a kind, and for letter codes: what comes of it. Assumes nothing.
-use Rattle.std.specs.Prelude.{◌≡◌, Bool, false, ◌⊎◌, List, [], ℕ, ◌<◌, ◌≤◌, length, get_or, take, Result, Ok, Err, MatchResult}
+use Rattle.std.specs.Prelude.{◌≡◌, false, ◌⊎◌, List, [], ℕ, ◌<◌, ◌≤◌, length, get_or, take, Result, Ok, Err, MatchResult}
 use Rattle.rules.specs.declared.Settings.{Settings}
 use Rattle.lines.specs.declared.error.FrameError.{FrameError}
 use Rattle.lines.specs.declared.error.FrameError.TheVariants.{DoesNotFit}
