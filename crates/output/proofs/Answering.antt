@@ -1,6 +1,7 @@
 -- The lines written for a job are its whole output. Assumes nothing.
 use mathlib.Core.Path.{◌≡◌, sym, ap, subst⁻¹, ◌∙◌}
 use mathlib.Core.Bool.{true}
+use Rattle.std.proofs.Common.{Result, Ok}
 use mathlib.Core.List.{List, [], ◌++◌}
 use Prim.Native.Nat.{ℕ, ◌+◌, ◌-◌, ◌*◌, ◌≤◌, ◌<◌}
 use native.Mathlib.Omega.{arith}
@@ -19,8 +20,8 @@ use Rattle.rules.proofs.Strands.{entry_size, entries_size}
 use Rattle.refusals.specs.Accepted.{Accepted}
 use Rattle.refusals.proofs.Checking.{accepted, read_accepted}
 use Rattle.compare.proofs.Demands.{Compared, refused, no_work_room, no_list_room, listed, demand_1}
-use Rattle.lines.specs.declared.Written.{Written}
-use Rattle.lines.specs.Writing.{in_front, written, leaves}
+use Rattle.lines.specs.declared.error.FrameError.{FrameError}
+use Rattle.lines.specs.Writing.{in_front, written, written_of, leaves}
 use Rattle.lines.proofs.Lines.{line_length}
 use Rattle.kinds.specs.declared.Done.{Done}
 use Rattle.kinds.specs.declared.Refused.{Refused}
@@ -38,11 +39,11 @@ refused_length : (x : Refused) → length (refused_line x) ≡ 19
 unfolding refused_line refused_payload number_bytes
 refused_length x = line_length 31 (refused_payload x)
 
-pub refused_written : (x : Refused) (out left : List ℕ) (w : Written) → refused_fits x ≡ true → 9038 ≤ length out
-    → w ≡ written (refused_fits x) (refused_line x) out
-    → left ≡ leaves (refused_fits x) (refused_line x) out → (w.length ≡ length (refused_line x)) × (left ≡ in_front (refused_line x) out)
+pub refused_written : (x : Refused) (out left : List ℕ) (r : Result ℕ FrameError) → refused_fits x ≡ true → 9038 ≤ length out
+    → written_of r ≡ written (refused_fits x) (refused_line x) out
+    → left ≡ leaves (refused_fits x) (refused_line x) out → (r ≡ Ok (length (refused_line x))) × (left ≡ in_front (refused_line x) out)
 unfolding in_front
-refused_written x out left w f h a b = wrote (refused_fits x) (refused_line x) out left w f (omega (arith, refused_length x)) a b
+refused_written x out left r f h a b = wrote (refused_fits x) (refused_line x) out left r f (omega (arith, refused_length x)) a b
 
 -- ---- the entries and one done frame
 
@@ -79,15 +80,18 @@ module _ (list old out : List ℕ) (x : Answer) (n at : ℕ) (safe : ListingSafe
   roomy : at + length (done_line (done_of x)) ≤ length old
   roomy = let r = safe.room in let f = entries_safe.few in omega (arith, done_length (done_of x))
 
-  module _ (left : List ℕ) (w : Written) (ew : w ≡ written (done_fits (done_of x)) (done_line (done_of x)) (mid_of at (length out - at) out))
+  module _ (left : List ℕ) (r : Result ℕ FrameError) (ew : written_of r ≡ written (done_fits (done_of x)) (done_line (done_of x)) (mid_of at (length out - at) out))
       (el : left ≡ leaves (done_fits (done_of x)) (done_line (done_of x)) (mid_of at (length out - at) out)) where
-    fact : (w.length ≡ length (done_line (done_of x))) × (left ≡ done_line (done_of x) ++ drop (length (done_line (done_of x))) (mid_of at (length out - at) out))
+    fact : (r ≡ Ok (length (done_line (done_of x)))) × (left ≡ done_line (done_of x) ++ drop (length (done_line (done_of x))) (mid_of at (length out - at) out))
     fact =
-        wrote (done_fits (done_of x)) (done_line (done_of x)) (mid_of at (length out - at) out) left w safe.done
+        wrote (done_fits (done_of x)) (done_line (done_of x)) (mid_of at (length out - at) out) left r safe.done
         (rest_long text old out (done_line (done_of x)) left at e o out_long roomy) ew el
 
-    pub done_fits_word : at + w.length ≤ 9038
-    done_fits_word = let f = entries_safe.few in omega (arith, fact.0, done_length (done_of x))
+    pub done_written : r ≡ Ok 47
+    done_written = fact.0 ∙ ap Ok (done_length (done_of x))
+
+    pub done_ends : at + 47 ≤ 9038
+    done_ends = let f = entries_safe.few in omega arith
 
     all_lines : text ++ done_line (done_of x) ≡ listing_lines list x
     unfolding listing_lines
@@ -96,10 +100,10 @@ module _ (list old out : List ℕ) (x : Answer) (n at : ℕ) (safe : ListingSafe
     there : at + length (done_line (done_of x)) ≡ length (text ++ done_line (done_of x))
     there = omega (arith, length-append text (done_line (done_of x)), e)
 
-    pub listing_written : (at + w.length ≡ length (listing_lines list x)) × (put_mid at (length out - at) out left ≡ in_front (listing_lines list x) old)
+    pub listing_written : (wide : ℕ) → wide ≡ 47 → (at + wide ≡ length (listing_lines list x)) × (put_mid at (length out - at) out left ≡ in_front (listing_lines list x) old)
     unfolding in_front
-    listing_written = (
-      ap (λ (k : ℕ). at + k) fact.0 ∙ there ∙ ap length all_lines,
+    listing_written wide w = (
+      ap (λ (k : ℕ). at + k) (w ∙ sym (done_length (done_of x))) ∙ there ∙ ap length all_lines,
       line_behind text old out (done_line (done_of x)) left at e o out_long roomy fact.1
           ∙ ap (λ (k : ℕ). (text ++ done_line (done_of x)) ++ drop k old) there
           ∙ ap (λ (l : List ℕ). l ++ drop (length l) old) all_lines,

@@ -1,6 +1,8 @@
 -- Lines written one behind the other into one lent slice. Assumes nothing.
 use mathlib.Core.Path.{◌≡◌, refl, sym, ap, ap₂, ◌∙◌}
 use mathlib.Core.Bool.{Bool, true, false, cond}
+use Rattle.std.proofs.Common.{Result, Ok}
+use Rattle.std.specs.Result.{IsOk}
 use mathlib.Core.List.{List, [], ◌∷◌, ◌++◌, append_assoc}
 use Prim.Native.Nat.{ℕ, zero, suc, ◌+◌, ◌-◌, ◌*◌, ◌/◌, ◌≤◌, ◌<◌}
 use native.Mathlib.Numerals.{add-one}
@@ -15,8 +17,9 @@ use Rattle.std.proofs.lemmas.List.{get_or-drop, get_or-take}
 use Rattle.rules.specs.Lists.{laid}
 use Rattle.rules.proofs.ListLaws.{laid_snoc}
 use Rattle.rooms.proofs.Rests.{rest_is, rest_back}
-use Rattle.lines.specs.declared.Written.{Written}
-use Rattle.lines.specs.Writing.{written, leaves}
+use Rattle.lines.specs.declared.error.FrameError.{FrameError}
+use Rattle.lines.specs.Writing.{Written, written, written_of, leaves}
+use Rattle.lines.proofs.Unique.{one_written}
 use Rattle.lines.proofs.Lines.{line_length}
 use Rattle.payloads.specs.Numbers.{number_bytes}
 use Rattle.kinds.specs.declared.Entry.{Entry}
@@ -25,11 +28,20 @@ use Rattle.output.specs.Output.{entry_of, line_of_entry}
 use Rattle.output.specs.Entries.{entry_in, entries_in, EntriesSafe}
 
 -- a writer that has room for a line that fits
-pub wrote : (fits : Bool) (line out left : List ℕ) (w : Written) → fits ≡ true → length line ≤ length out → w ≡ written fits line out
+pub wrote : (fits : Bool) (line out left : List ℕ) (r : Result ℕ FrameError) → fits ≡ true → length line ≤ length out → written_of r ≡ written fits line out
     → left ≡ leaves fits line out
-    → (w.length ≡ length line) × (left ≡ line ++ drop (length line) out)
+    → (r ≡ Ok (length line)) × (left ≡ line ++ drop (length line) out)
 unfolding written leaves
-wrote fits line out left w e h a b = (rw (a, e, le-leb (length line) (length out) h), rw (b, e, le-leb (length line) (length out) h))
+wrote fits line out left r e h a b =
+    let t = le-leb (length line) (length out) h in
+    (one_written r (Ok (length line)) (rw (a, e, t)), rw (b, e, t))
+
+-- what was written is known to be, and how much
+pub was_written : {r : Result ℕ FrameError} {n : ℕ} → r ≡ Ok n → IsOk r
+was_written e = rw e
+
+pub as_long : {r : Result ℕ FrameError} {m n : ℕ} → r ≡ Ok m → r ≡ Ok n → m ≡ n
+as_long a b = cc
 
 -- one line more, behind some text
 module _ (text old out line left : List ℕ) (at : ℕ) (e : at ≡ length text) (o : out ≡ text ++ drop at old) (l : length out ≡ length old)
@@ -133,8 +145,8 @@ module _ {list old : List ℕ} {count : ℕ} where
   writing_start = record { most = omega arith; place = refl; lines = refl; long = refl }
 
   module _ (safe : EntriesSafe list old count) {out : List ℕ} {at n : ℕ} (v : Writing list old out count at n) where
-    module _ (h : n < count) {numbers : List ℕ} (en : numbers ≡ entry_in list n) {w : Written} {left : List ℕ}
-        (ew : w ≡ written (entry_fits (entry_of numbers)) (line_of_entry numbers) (mid_of at (length out - at) out))
+    module _ (h : n < count) {numbers : List ℕ} (en : numbers ≡ entry_in list n) (r : Result ℕ FrameError) {left : List ℕ}
+        (ew : written_of r ≡ written (entry_fits (entry_of numbers)) (line_of_entry numbers) (mid_of at (length out - at) out))
         (el : left ≡ leaves (entry_fits (entry_of numbers)) (line_of_entry numbers) (mid_of at (length out - at) out)) where
       abbrev line : List ℕ
       line = line_of_entry (entry_in list n)
@@ -151,13 +163,14 @@ module _ {list old : List ℕ} {count : ℕ} where
       roomy : at + length line ≤ length old
       roomy = let r = safe.room in let p = v.place in let l = entry_length (entry_in list n) in omega arith
 
-      fact : (w.length ≡ length line) × (left ≡ line ++ drop (length line) (mid_of at (length out - at) out))
+      fact : (r ≡ Ok (length line)) × (left ≡ line ++ drop (length line) (mid_of at (length out - at) out))
       fact =
-          wrote (entry_fits (entry_of (entry_in list n))) line (mid_of at (length out - at) out) left w (safe.fit n h)
+          wrote (entry_fits (entry_of (entry_in list n))) line (mid_of at (length out - at) out) left r (safe.fit n h)
           (rest_long text old out line left at e o v.long roomy) (rw en at ew) (rw en at el)
 
-      pub writing_length : w.length ≡ 27
-      writing_length = fact.0 ∙ entry_length (entry_in list n)
+      -- the line is written, and 27 bytes long
+      pub writing_length : r ≡ Ok 27
+      writing_length = fact.0 ∙ ap Ok (entry_length (entry_in list n))
 
       text_next : text ++ line ≡ laid line_of_entry (entries_in list (n + 1))
       unfolding entries_in
@@ -184,9 +197,9 @@ module _ {list old : List ℕ} {count : ℕ} where
                 (27 * (n + 1)) old,
           ))
 
-      pub writing_next : Writing list old (put_mid at (length out - at) out left) count (at + w.length) (n + 1)
-      writing_next =
-          record { most = omega arith; place = (let p = v.place in let l = writing_length in omega arith); lines = lines_next; long = long_next }
+      pub writing_next : (wide : ℕ) → wide ≡ 27 → Writing list old (put_mid at (length out - at) out left) count (at + wide) (n + 1)
+      writing_next wide w =
+          record { most = omega arith; place = (let p = v.place in omega arith); lines = lines_next; long = long_next }
 
     pub writing_end : count ≤ n → (at ≡ 27 * count) × (out ≡ laid line_of_entry (entries_in list count) ++ drop (27 * count) old)
     writing_end h =

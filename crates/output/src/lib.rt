@@ -3,13 +3,13 @@
 
 ghost use Rattle.std.specs.Prelude.{◌≡◌, true, ◌++◌, ◌+◌, ◌*◌, ◌≤◌, length, drop};
 ghost use Rattle.rules.specs.Lists.{laid};
-ghost use Rattle.lines.specs.Writing.{in_front, written, leaves};
+ghost use Rattle.lines.specs.Writing.{in_front, written, written_of, leaves};
 ghost use Rattle.kinds.specs.Kinds.{entry_fits, refused_line, refused_fits};
 ghost use Rattle.output.specs.Output.{entry_of, line_of_entry, job_output};
 ghost use Rattle.output.specs.Entries.{entry_in, entries_in, EntriesSafe, ListingSafe, listing_lines};
 
 use kinds::{Done, Entry, Refused, Span};
-use lines::Written;
+use lines::FrameError;
 use rules::{Answer, Settings};
 
 // The first five of an entry's six numbers.
@@ -31,8 +31,8 @@ fn entry_of(numbers: &[u32; 6]) -> Entry
 }
 
 // Writes the line of an entry: its kind tells the strand.
-fn put_entry(numbers: &[u32; 6], output: &mut [u8]) -> Written
-    ensures value { result ≡ written (entry_fits (entry_of numbers.now)) (line_of_entry numbers.now) output.old }
+fn put_entry(numbers: &[u32; 6], output: &mut [u8]) -> Result<usize, FrameError>
+    ensures value { written_of result ≡ written (entry_fits (entry_of numbers.now)) (line_of_entry numbers.now) output.old }
     ensures output_after { output.new ≡ leaves (entry_fits (entry_of numbers.now)) (line_of_entry numbers.now) output.old }
 {
     let entry = entry_of(numbers);
@@ -52,8 +52,7 @@ fn put_entries(list: &[u32], count: usize, output: &mut [u8]) -> usize
     let (entries, _) = list.as_chunks::<6>();
     let mut at = 0;
     for entry in &entries[..count] {
-        let line = put_entry(entry, &mut output[at..]);
-        at += line.length;
+        at += put_entry(entry, &mut output[at..]).unwrap();
     }
     at
 }
@@ -71,8 +70,7 @@ fn put_listing(list: &[u32], x: Answer, output: &mut [u8]) -> usize
         widest: x.widest,
         links: x.links,
     };
-    let line = writers::write_done(done, &mut output[at..]);
-    at + line.length
+    at + writers::write_done(done, &mut output[at..]).unwrap()
 }
 
 // Writes one refused frame, and returns where its line ends.
@@ -82,8 +80,7 @@ pub fn put_refused(x: Refused, output: &mut [u8]) -> usize
     ensures value { result ≡ length (refused_line x) }
     ensures output_after { output.new ≡ in_front (refused_line x) output.old }
 {
-    let line = writers::write_refused(x, output);
-    line.length
+    writers::write_refused(x, output).unwrap()
 }
 
 // Runs a job in the rooms that the paper names and writes its whole output, at most 333 entries of 27 bytes and a done frame of 47.
