@@ -5,7 +5,9 @@ use mathlib.Core.Logic.{⊎_elim}
 use Prim.Native.Nat.{ℕ, zero, suc, ◌+◌, ◌/◌, ◌^◌, ◌<◌, ◌≤◌}
 use native.Mathlib.Omega.{arith}
 use native.Mathlib.Numerals.{add-one}
-use lib.ListN.{length, get_or, set, replicate, length-set, length-replicate}
+use lib.ListN.{length, get_or, set, take, replicate, length-set, length-replicate}
+use Rattle.std.proofs.Common.{get_or-take}
+use Rattle.std.proofs.lemmas.List.{length-take-le}
 use Rattle.order.proofs.Cases.{eq_or_ne, after_set, zero_at}
 use Rattle.directory.specs.Directory.{bucket_of, ends_to, Bucketed}
 
@@ -56,6 +58,17 @@ module _ {low n q : ℕ} {keys ends₀ ends : List ℕ} (w : Filling low keys en
 pub filling_end : {low n q : ℕ} {keys ends₀ ends : List ℕ} → Filling low keys ends₀ ends n q → n ≤ q → ends ≡ ends_to low keys ends₀ n
 filling_end {low} {n} {q} {keys} {ends₀} w h = let e : q ≡ n = omega (arith, w.upto) in w.ends_are ∙ ap (ends_to low keys ends₀) e
 
--- filled from an array as it is made
-pub directory_ready : {low n m : ℕ} {keys ends : List ℕ} → n ≡ m → ends ≡ ends_to low keys (replicate 65536 0) n → Bucketed low keys ends m
-directory_ready {low} {n} {m} {keys} d e = rw (e, d) (filled low keys (replicate 65536 0) (length-replicate {A = ℕ} 65536 0) (zero_at 65536) m)
+-- the keys behind the first n fill no bucket
+ends_front : (low : ℕ) (keys ends : List ℕ) (n m : ℕ) → m ≤ n → ends_to low (take n keys) ends m ≡ ends_to low keys ends m
+unfolding ends_to
+ends_front low keys ends n zero h = refl
+ends_front low keys ends n (suc m) h =
+    let read : get_or (take n keys) m 0 ≡ get_or keys m 0 = get_or-take n keys m 0 (omega arith) in
+    rw (ends_front low keys ends n m (omega arith), read)
+
+-- filled from an array as it is made, with the first n keys
+pub directory_ready : {low n m : ℕ} {keys ends : List ℕ} → n ≡ m → n ≤ length keys → ends ≡ ends_to low (take n keys) (replicate 65536 0) (length (take n keys))
+    → Bucketed low keys ends m
+directory_ready {low} {n} {m} {keys} d h e =
+    let size : length (take n keys) ≡ n = length-take-le n keys h in
+    rw (e, size, ends_front low keys (replicate 65536 0) n n (omega arith), d) (filled low keys (replicate 65536 0) (length-replicate {A = ℕ} 65536 0) (zero_at 65536) m)

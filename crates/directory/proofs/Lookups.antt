@@ -4,7 +4,12 @@ use mathlib.Core.List.{List}
 use mathlib.Core.Logic.{⊎_elim}
 use Prim.Native.Nat.{ℕ, zero, suc, ◌+◌, ◌-◌, ◌/◌, ◌<◌, ◌≤◌}
 use native.Mathlib.Omega.{arith}
-use lib.ListN.{length, get_or}
+use lib.ListN.{length, get_or, take, drop, length-take, length-drop}
+use Rattle.std.proofs.Common.{Bool, true, false, nat_lt, get_or-take}
+use Rattle.std.specs.List.Sorted.{IsPartitionedBy, IsPartitionPoint}
+use Rattle.std.proofs.lemmas.List.{get_or-drop}
+use Rattle.std.proofs.lemmas.Grind.{get_or_default_zero}
+use Rattle.std.proofs.lemmas.Bool.Decides.{nat_tests}
 use Rattle.rules.specs.Codes.{code_at}
 use Rattle.rules.proofs.Tests.{Three, below, equal, above, three}
 use Rattle.requests.specs.Index.{kmer_places}
@@ -15,43 +20,42 @@ use Rattle.ownership.specs.Owners.{own_of}
 use Rattle.ownership.proofs.Hits.{hit_none, hit_at}
 use Rattle.ownership.proofs.Owns.{is_owner}
 use Rattle.index.specs.Keys.{Indexed}
+use Rattle.index.proofs.Between.{between, between_length, between_at, between_here}
 use Rattle.directory.specs.Directory.{bucket_of, Rising, Bucketed, Reached, Lower}
 
--- ---- halving
+-- ---- where a code would stand, among the keys from begin to end
 
-pub lower_start : {keys : List ℕ} {begin end c : ℕ} → begin ≤ end → Lower keys begin end c begin end
-lower_start h = record { after = omega arith; within = h; upto = omega arith; low = λ q a b. absurd (omega arith); high = λ q a b. absurd (omega arith) }
+abbrev pub under : ℕ → ℕ → Bool
+under c key = nat_lt key c
 
--- the middle of what is left
-pub record Middle (lo mid hi : ℕ) : Type 0 where
-  pub from : lo ≤ mid
-  pub below : mid < hi
+module _ (keys : List ℕ) (begin end c : ℕ) (inside : end ≤ length keys) where
+  -- none that is below the code stands behind one that is not
+  pub parted : Rising keys end → IsPartitionedBy (under c) (between keys begin end)
+  parted r i j d h l e =
+      let long = between_length keys begin end inside in
+      let at_i = between_at keys begin end inside i d (omega arith) in
+      let at_j = between_at keys begin end inside j d (omega arith) in
+      let rise = r.rise (begin + i) (begin + j) (omega arith) (omega arith) in
+      grind (arith, nat_tests)
 
-pub middle : {lo hi : ℕ} → lo < hi → Middle lo (lo + (hi - lo) / 2) hi
-middle h = record { from = omega arith; below = omega arith }
+  low : (p : ℕ) → begin ≤ p → p < end → under c (get_or (between keys begin end) (p - begin) 0) ≡ true → get_or keys p 0 < c
+  low p a b e = let at = between_here keys begin end inside p a b in grind (arith, nat_tests)
 
-module _ {keys : List ℕ} {begin end c lo hi mid : ℕ} (r : Rising keys end) (m : Middle lo mid hi) (w : Lower keys begin end c lo hi) where
-  pub lower_up : get_or keys mid 0 < c → Lower keys begin end c (mid + 1) hi
-  lower_up l = record {
-    after = omega (arith, w.after, m.from);
-    within = omega (arith, m.below);
-    upto = w.upto;
-    low = λ q a b. omega (arith, r.rise q mid (omega arith) (omega (arith, m.below, w.upto)));
-    high = w.high;
-  }
+  high : (p : ℕ) → begin ≤ p → p < end → under c (get_or (between keys begin end) (p - begin) 0) ≡ false → c ≤ get_or keys p 0
+  high p a b e = let at = between_here keys begin end inside p a b in grind (arith, nat_tests)
 
-  pub lower_down : c ≤ get_or keys mid 0 → Lower keys begin end c lo mid
-  lower_down l = record {
-    after = w.after;
-    within = m.from;
-    upto = omega (arith, m.below, w.upto);
-    low = w.low;
-    high = λ q a b. omega (arith, r.rise mid q a b);
-  }
-
-pub lower_end : {keys : List ℕ} {begin end c lo hi : ℕ} → hi ≤ lo → Lower keys begin end c lo hi → Lower keys begin end c lo lo
-lower_end h w =
-    record { after = w.after; within = omega arith; upto = omega (arith, w.within, w.upto); low = w.low; high = λ q a b. w.high q (omega (arith, w.within)) b }
+  pub lower_at : {q : ℕ} → begin ≤ end → q ≤ length (between keys begin end)
+      → IsPartitionPoint (λ y. under c y ≡ true) (λ y. under c y ≡ false) (between keys begin end) q
+      → Lower keys begin end c (begin + q) (begin + q)
+  lower_at {q} h l (front, back) =
+      let long = between_length keys begin end inside in
+      record {
+        after = omega arith;
+        within = omega arith;
+        upto = omega arith;
+        low = λ p a b. low p a (omega arith) (front (p - begin) 0 (omega arith) (omega arith));
+        high = λ p a b. high p (omega arith) b (back (p - begin) 0 (omega arith) (omega arith));
+      }
 
 -- ---- reaching for it
 
@@ -60,19 +64,6 @@ pub record Reaching (end begin step : ℕ) : Type 0 where
   pub upto : begin ≤ end
   pub some : 1 ≤ step
   pub short : 0 < begin → begin + step ≤ end + 1
-
-pub reach_start : {end : ℕ} → Reaching end end 1
-reach_start = record { upto = omega arith; some = omega arith; short = λ _. omega arith }
-
-pub reach_next : {end begin step next : ℕ} → Reaching end begin step → 0 < begin → next ≡ begin - step → Reaching end next (step + step)
-reach_next w h e = record { upto = omega (arith, w.upto); some = omega (arith, w.some); short = λ p. omega (arith, w.short h) }
-
-pub reach_found : {keys : List ℕ} {end c begin step : ℕ} → Rising keys end → Reaching end begin step → 0 < begin → get_or keys (begin - 1) 0 < c → Reached keys end c begin
-reach_found {keys} {end} {c} {begin} r w h l =
-    record { upto = w.upto; below = λ q k. omega (arith, r.rise q (begin - 1) (omega arith) (omega (arith, w.upto))) }
-
-pub reach_all : {keys : List ℕ} {end c : ℕ} → Reached keys end c 0
-reach_all = record { upto = omega arith; below = λ q l. absurd (omega arith) }
 
 -- ---- an index and its keys
 

@@ -12,23 +12,6 @@ use Rattle.ownership.specs.Owners.{own_of, Owned}
 use Rattle.ownership.proofs.Owns.{owner_of, owned_start, owned_next, owned_end}
 use Rattle.directory.specs.Directory.{Near, next_near}
 
--- ---- beside it
-
-pub near_there : {second : List ℕ} {near c : ℕ} → near < length second → Near second near c (eqb (get_or second near 0) c)
-near_there {second} {near} {c} h =
-    record { there = λ e. (h, eqb-true (get_or second near 0) c e); elsewhere = λ e _. eqb-false (get_or second near 0) c e }
-
-pub near_past : {second : List ℕ} {near c : ℕ} → length second ≤ near → Near second near c false
-near_past h = record { there = λ e. absurd (true_not_false (sym e)); elsewhere = λ _ l. absurd (omega arith) }
-
-pub next_none : (near : ℕ) {owner : ℕ} → owner ≡ 0 → near + 1 ≡ next_near near owner
-unfolding next_near
-next_none near {owner} e = rw (eq-eqb owner 0 e)
-
-pub next_found : (near : ℕ) {owner : ℕ} → (owner ≡ 0 → ⊥) → owner ≡ next_near near owner
-unfolding next_near
-next_found near {owner} n = rw (ne_eqb owner 0 n)
-
 -- ---- row by row
 
 pub record Rows (first second heads₀ heads : List ℕ) (near i : ℕ) : Type 0 where

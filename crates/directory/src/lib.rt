@@ -5,16 +5,29 @@
 
 ghost use Rattle.std.specs.Prelude.{◌≡◌, ◌-◌, ◌*◌, ◌^◌, ◌≤◌, ◌<◌, length};
 ghost use Rattle.requests.specs.Index.{kmer_places};
-ghost use Rattle.index.specs.Keys.{Indexed};
 ghost use Rattle.ownership.specs.Owners.{own_of, Owned};
 ghost use Rattle.directory.specs.Directory.{bucket_of, ends_to, Rising, Bucketed, Reached, Lower, Near, next_near};
+
+use index::Lookup;
+
+// An index with a directory of its keys.
+#[derive(Clone, Copy)]
+pub struct Directory<'a> {
+    pub lookup: Lookup<'a>,
+    // how many low bits of a code a bucket leaves out
+    pub low: usize,
+    // where each bucket ends
+    pub ends: &'a [u16],
+    pub ghost low_bound: { low < 64 },
+    pub ghost bucketed: { Bucketed low lookup.keys.now ends.now (kmer_places lookup.codes.now) },
+}
 
 // How many low bits of a code a bucket leaves out: of the 2k all but sixteen.
 pub fn low_bits(k: u32) -> usize
     requires { k ≤ 31 }
     ensures { result ≡ 2 * k - 16 }
 {
-    numbers::minus(2 * numbers::wide(k), 16)
+    (2 * k as usize).saturating_sub(16)
 }
 
 // The bucket of a code. Nothing is asked of it but that it is a function; that buckets are small is a matter of time alone.
@@ -25,19 +38,15 @@ fn bucket(code: u64, low: usize) -> usize
     ((code >> low) % 65536) as usize
 }
 
-// Where each bucket ends among the first n keys: one turn a key.
-pub fn fill_directory(keys: &[u64], n: usize, low: usize, ends: &mut [u16])
+// Where each bucket ends among the keys: one turn a key.
+pub fn fill_directory(keys: &[u64], low: usize, ends: &mut [u16])
     requires low_bound { low < 64 }
-    requires n_bound { n ≤ 16384 }
-    requires n_in_bounds { n ≤ length keys.now }
+    requires few { length keys.now ≤ 16384 }
     requires ends_len { length ends.old ≡ 65536 }
-    ensures { ends.new ≡ ends_to low keys.now ends.old n }
+    ensures { ends.new ≡ ends_to low keys.now ends.old (length keys.now) }
 {
-    let mut q: usize = 0;
-    while q < n {
-        let b = bucket(keys[q], low);
-        q += 1;
-        ends[b] = q as u16;
+    for (q, key) in keys.iter().enumerate() {
+        ends[bucket(*key, low)] = (q + 1) as u16;
     }
 }
 
@@ -49,14 +58,12 @@ fn reach(keys: &[u64], end: usize, c: u64) -> usize
 {
     let mut begin = end;
     let mut step: usize = 1;
-    while 0 < begin {
-        if keys[begin - 1] < c {
-            return begin;
-        }
-        begin = numbers::minus(begin, step);
-        step = step + step;
+    // kept: each step is twice the one before it, so no range counts them
+    while 0 < begin && c <= keys[begin - 1] {
+        begin = begin.saturating_sub(step);
+        step += step;
     }
-    0
+    begin
 }
 
 // Where a code would stand among the keys from begin to end: log turns.
@@ -66,49 +73,31 @@ fn lower(keys: &[u64], begin: usize, end: usize, c: u64) -> usize
     requires rising { Rising keys.now end }
     ensures { Lower keys.now begin end c result result }
 {
-    let mut lo = begin;
-    let mut hi = end;
-    while lo < hi {
-        let mid = lo + (hi - lo) / 2;
-        if keys[mid] < c {
-            lo = mid + 1;
-        } else {
-            hi = mid;
-        }
-    }
-    lo
+    begin + keys[begin..end].partition_point(|key| *key < c)
 }
 
-// The owner of one code: equal codes are ordered by place, so the first key of its bucket that is not below it stands at its first column.
-fn owner_of(second: &[u64], index: &[u32], keys: &[u64], low: usize, ends: &[u16], c: u64) -> u32
-    requires low_bound { low < 64 }
-    requires indexed { Indexed second.now index.now keys.now }
-    requires bucketed { Bucketed low keys.now ends.now (kmer_places second.now) }
-    ensures { result ≡ own_of second.now c }
-{
-    if c == 0 {
-        return 0;
+impl Directory<'_> {
+    // The owner of one code, and 0 where it has none, as the arrays of owners hold it: equal codes are ordered by place, so the first key of its bucket that
+    // is not below it stands at its first column.
+    fn owner_of(self, c: u64) -> u32
+        ensures { result ≡ own_of self.entry.lookup.codes.now c }
+    {
+        if c == 0 {
+            return 0;
+        }
+        let keys = self.lookup.keys;
+        let end = usize::from(self.ends[bucket(c, self.low)]);
+        let begin = reach(keys, end, c);
+        let q = lower(keys, begin, end, c);
+        if q < end && keys[q] == c { self.lookup.index[q] } else { 0 }
     }
-    let end = ends[bucket(c, low)] as usize;
-    let begin = reach(keys, end, c);
-    let q = lower(keys, begin, end, c);
-    if end <= q {
-        return 0;
-    }
-    if keys[q] == c {
-        return index[q];
-    }
-    0
 }
 
 // Whether the code stands at an index of the second sequence.
 fn is_near(second: &[u64], near: usize, c: u64) -> bool
     ensures { Near second.now near c result }
 {
-    if near < second.len() {
-        return second[near] == c;
-    }
-    false
+    second.get(near).is_some_and(|code| *code == c)
 }
 
 // The index at which the next row's code is looked for first: behind the column that was found, and else one further, in case the rows have met a letter
@@ -120,42 +109,25 @@ fn next_near(near: usize, owner: u32) -> usize
     if owner == 0 {
         near + 1
     } else {
-        numbers::wide(owner)
+        owner as usize
     }
 }
 
 // The owner of each row's code, where every column's is in own.
-pub fn own_rows(
-    first: &[u64],
-    second: &[u64],
-    own: &[u32],
-    index: &[u32],
-    keys: &[u64],
-    low: usize,
-    ends: &[u16],
-    heads: &mut [u32],
-)
-    requires low_bound { low < 64 }
-    requires first_len_bound { length first.now ≤ 16384 }
-    requires second_len_bound { length second.now ≤ 16384 }
-    requires second_in_bounds { length second.now ≤ length own.now }
-    requires first_in_bounds { length first.now ≤ length heads.old }
-    requires owned { Owned second.now second.now own.now own.now (length second.now) }
-    requires indexed { Indexed second.now index.now keys.now }
-    requires bucketed { Bucketed low keys.now ends.now (kmer_places second.now) }
-    ensures { Owned second.now first.now heads.old heads.new (length first.now) }
+pub fn own_rows(directory: Directory, first: &[u64], own: &[u32], heads: &mut [u32])
+    requires few_rows { length first.now ≤ 16384 }
+    requires columns_in_bounds { length directory.lookup.codes.now ≤ length own.now }
+    requires rows_in_bounds { length first.now ≤ length heads.old }
+    requires owned { Owned directory.lookup.codes.now directory.lookup.codes.now own.now own.now (length directory.lookup.codes.now) }
+    ensures { Owned directory.entry.lookup.codes.now first.now heads.old heads.new (length first.now) }
 {
     let mut near: usize = 0;
-    let mut i: usize = 0;
-    while i < first.len() {
-        let row = i;
-        let c = first[row];
-        i += 1;
-        if is_near(second, near, c) {
+    for (row, c) in first.iter().enumerate() {
+        if is_near(directory.lookup.codes, near, *c) {
             heads[row] = own[near];
             near += 1;
         } else {
-            let owner = owner_of(second, index, keys, low, ends, c);
+            let owner = directory.owner_of(*c);
             heads[row] = owner;
             near = next_near(near, owner);
         }

@@ -69,17 +69,6 @@ code_before codes (suc p) n = let e : suc p - 1 ≡ p = omega arith in rw e
 pub keyed_start : {codes index keys : List ℕ} → Keyed codes index keys keys 0
 keyed_start = record { long = refl; key = λ q l. absurd (omega arith); others = λ q l. refl }
 
-pub keyed_next : {codes index keys₀ keys : List ℕ} {n v : ℕ} → n < length keys → v ≡ code_at codes (get_or index n 0) → Keyed codes index keys₀ keys n
-    → Keyed codes index keys₀ (set keys n v) (n + 1)
-keyed_next {codes} {index} {keys₀} {keys} {n} {v} l e k = record {
-  long = length-set keys n v ∙ k.long;
-  key = after_set (λ q x. q < n + 1 → x ≡ code_at codes (get_or index q 0)) keys n v l (λ _. e) (λ q d m. k.key q (omega arith));
-  others = after_set (λ q x. n + 1 ≤ q → x ≡ get_or keys₀ q 0) keys n v l (λ m. absurd (omega arith)) (λ q d m. k.others q (omega arith));
-}
-
-pub keyed_end : {codes index keys₀ keys : List ℕ} {n m : ℕ} → n ≤ m → m ≤ n → Keyed codes index keys₀ keys n → Keyed codes index keys₀ keys m
-keyed_end {codes} {index} {keys₀} {keys} a b k = subst (Keyed codes index keys₀ keys) (omega arith) k
-
 -- what stood there before is forgotten
 pub keyed_again : {codes index keys₀ keys : List ℕ} {n : ℕ} → Keyed codes index keys₀ keys n → Keyed codes index keys keys n
 keyed_again k = record { long = refl; key = k.key; others = λ q l. refl }

@@ -3,17 +3,22 @@
 #![tactic(auto)]
 
 ghost use Rattle.std.specs.Prelude.{◌≡◌, ◌≤◌, length};
+ghost use Rattle.std.specs.Bool.{then_some};
 ghost use Rattle.rules.specs.Codes.{code_at};
 ghost use Rattle.requests.specs.Index.{index_of_codes, kmer_places, begins_with};
-ghost use Rattle.index.specs.Keys.{Keyed, numbers_read, goes_on};
+ghost use Rattle.index.specs.Keys.{Keyed, Indexed, numbers_read, goes_on};
 
-// What a slice held against codes shows.
-#[derive(Drop)]
-pub struct Held {
+// The codes of a sequence, at most as many as it can have places, with a slice that begins with their index, and the codes of its numbers.
+#[derive(Clone, Copy)]
+pub struct Lookup<'a> {
+    pub codes: &'a [u64],
+    pub index: &'a [u32],
+    pub keys: &'a [u64],
     // how many places have a k-mer
     pub places: usize,
-    // whether the slice begins with their index
-    pub begins: bool,
+    pub ghost few: { length codes.now ≤ 16384 },
+    pub ghost counted: { places ≡ kmer_places codes.now },
+    pub ghost indexed: { Indexed codes.now index.now keys.now },
 }
 
 // How many places have a k-mer: one look at each.
@@ -72,21 +77,17 @@ fn begins(codes: &[u64], index: &[u32], keys: &[u64], n: usize) -> bool
     true
 }
 
-// Holds a slice against the codes; one that is not too short leaves the codes of its numbers in keys.
-pub fn check(codes: &[u64], index: &[u32], keys: &mut [u64]) -> Held
+// Holds a slice against the codes: how many places have a k-mer, where it begins with their index. One that is not too short leaves the codes of its
+// numbers in keys.
+pub fn check(codes: &[u64], index: &[u32], keys: &mut [u64]) -> Option<usize>
     requires { length codes.now ≤ length keys.old }
-    ensures places_value { result.places ≡ kmer_places codes.now }
-    ensures begins_value { result.begins ≡ begins_with (index_of_codes codes.now) index.now }
+    ensures value { result ≡ then_some (begins_with (index_of_codes codes.now) index.now) (kmer_places codes.now) }
     ensures keyed { Keyed codes.now index.now keys.old keys.new (numbers_read (kmer_places codes.now) index.now) }
 {
     let places = count_kmers(codes);
     if index.len() < places {
-        return Held {
-            places,
-            begins: false,
-        };
+        return None;
     }
     read_keys(codes, index, places, keys);
-    let begins = begins(codes, index, keys, places);
-    Held { places, begins }
+    begins(codes, index, keys, places).then_some(places)
 }

@@ -18,7 +18,7 @@ use Rattle.requests.specs.Index.{codes_of}
 use Rattle.requests.proofs.Backwards.{mirrored_lists}
 use Rattle.walks.specs.Matched.{coded_match, coded_matches}
 use Rattle.walks.proofs.Matching.{Blank, CodesWalked, codes_walked, Matched, BothMatched, both_of}
-use Rattle.mirrored.specs.Mirrored.{row_codes, column_codes, FitsCoded, Columns, BothColumns}
+use Rattle.mirrored.specs.Mirrored.{row_codes, column_codes, FirstFits, Columns, BothColumns}
 use Rattle.mirrored.proofs.Rows.{row_count, column_count}
 
 -- the test of a match on a strand, by these codes
@@ -60,13 +60,13 @@ module _ (c : Settings) (s t : List ℕ) where
       })
 
 -- THE THEOREM: in arrays that were blank
-module _ {c : Settings} {s coded cols index keys : List ℕ} {n : ℕ} (t : List ℕ) (ok : FitsCoded c s coded cols index keys n) (e : cols ≡ codes_of c.k c.mask t) where
+module _ {c : Settings} {s coded cols : List ℕ} (t : List ℕ) (ok : FirstFits c s coded) (few : length cols ≤ 16384) (e : cols ≡ codes_of c.k c.mask t) where
   pub columns_matched : (strand : ℕ) {firsts₀ nexts₀ firsts nexts : List ℕ} → Blank firsts₀ → Blank nexts₀ → Columns c strand s cols firsts₀ nexts₀ firsts nexts
       → Matched c coded (on_strand strand (as_read c.mask t)) firsts nexts (length coded)
   unfolding codes_of
   columns_matched strand {firsts₀} {nexts₀} {firsts} {nexts} bf bn m =
-      let rows : length (row_codes c strand s) ≤ 16384 = omega (arith, row_count c strand s, places_few c.k s ok.fits.some_base ok.fits.short_first) in
-      let columns : length (column_codes strand cols) ≤ 16384 = omega (arith, column_count strand cols, ok.fits.few_columns) in
+      let rows : length (row_codes c strand s) ≤ 16384 = omega (arith, row_count c strand s, places_few c.k s ok.some_base ok.short_first) in
+      let columns : length (column_codes strand cols) ≤ 16384 = omega (arith, column_count strand cols, few) in
       let walked = codes_walked (row_codes c strand s) (column_codes strand cols) c.a rows columns firsts₀ nexts₀ firsts nexts bf bn m.first_columns m.next_columns in
       subst⁻¹ (λ (l : List ℕ). Matched c l (on_strand strand (as_read c.mask t)) firsts nexts (length l)) ok.coded_are
       (walked_matched c s t strand (subst (λ (l : List ℕ). CodesWalked (row_codes c strand s) (column_codes strand l) c.a firsts nexts) e walked))

@@ -10,12 +10,12 @@ use Rattle.kmers.proofs.Codes.{places_few}
 use Rattle.nexts.specs.Nexts.{NextColumns}
 use Rattle.matches.specs.Columns.{FirstColumns}
 use Rattle.walks.specs.Matched.{reverse_rows}
-use Rattle.mirrored.specs.Mirrored.{row_codes, column_codes, FitsCoded, Columns, BothColumns}
+use Rattle.mirrored.specs.Mirrored.{row_codes, column_codes, FirstFits, Columns, BothColumns}
 use Rattle.mirrored.proofs.Rows.{row_count}
 
-pub rows_few : {c : Settings} {first coded codes index keys : List ℕ} {n : ℕ} → FitsCoded c first coded codes index keys n → length coded ≤ 16384
+pub rows_few : {c : Settings} {first coded : List ℕ} → FirstFits c first coded → length coded ≤ 16384
 unfolding row_codes
-rows_few {c} {first} ok = omega (arith, ap length ok.coded_are, row_count c 0 first, places_few c.k first ok.fits.some_base ok.fits.short_first)
+rows_few {c} {first} ok = omega (arith, ap length ok.coded_are, row_count c 0 first, places_few c.k first ok.some_base ok.short_first)
 
 -- ---- one strand
 
@@ -25,13 +25,10 @@ module _ {c : Settings} {strand : ℕ} {first codes firsts₀ nexts₀ firsts ne
       → Columns c strand first codes firsts₀ nexts₀ firsts nexts
   strand_columns e d f m = record { first_columns = rw (e, d) at f; next_columns = rw d at m }
 
-  pub forward_columns : {coded index keys : List ℕ} {n : ℕ} → FitsCoded c first coded codes index keys n → strand ≡ 0 → FirstColumns coded codes c.a firsts₀ firsts → NextColumns codes nexts₀ nexts
+  pub forward_columns : {coded : List ℕ} → FirstFits c first coded → strand ≡ 0 → FirstColumns coded codes c.a firsts₀ firsts → NextColumns codes nexts₀ nexts
       → Columns c strand first codes firsts₀ nexts₀ firsts nexts
   unfolding row_codes column_codes
   forward_columns ok e f m = strand_columns (rw e ok.coded_are) (rw e) f m
-
-  pub reverse_columns : strand ≤ 1 → (strand ≡ 0 → ⊥) → Columns c 1 first codes firsts₀ nexts₀ firsts nexts → Columns c strand first codes firsts₀ nexts₀ firsts nexts
-  reverse_columns h z m = let e : strand ≡ 1 = omega arith in subst⁻¹ (λ (q : ℕ). Columns c q first codes firsts₀ nexts₀ firsts nexts) e m
 
 -- ---- both
 

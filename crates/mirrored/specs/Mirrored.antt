@@ -4,8 +4,7 @@
 use Rattle.std.specs.Prelude.{◌≡◌, List, reverse, ℕ, zero, suc, ◌≤◌, length}
 use Rattle.rules.specs.declared.Settings.{Settings}
 use Rattle.rules.specs.Letters.{reverse_complement}
-use Rattle.requests.specs.Index.{kmer_places, codes_of}
-use Rattle.index.specs.Keys.{Indexed}
+use Rattle.requests.specs.Index.{codes_of}
 use Rattle.nexts.specs.Nexts.{NextColumns}
 use Rattle.matches.specs.Columns.{FirstColumns}
 use Rattle.walks.specs.Matched.{reverse_rows}
@@ -23,18 +22,11 @@ column_codes (suc n) codes = reverse codes
 
 -- ---- contracts
 
--- settings and a first sequence that the checks let pass, the codes of the second, and a slice that begins with their index
-pub record Fits (c : Settings) (first codes index keys : List ℕ) (n : ℕ) : Type 0 where
+-- settings and a first sequence that the checks let pass, with its codes; what the codes of the second have to be stands in `index::Lookup`
+pub record FirstFits (c : Settings) (first coded : List ℕ) : Type 0 where
   pub some_base : 1 ≤ c.k
   pub few_bases : c.k ≤ 31
   pub short_first : length first ≤ 16384
-  pub few_columns : length codes ≤ 16384
-  pub places : n ≡ kmer_places codes
-  pub indexed : Indexed codes index keys
-
--- and the codes of the first sequence with them
-pub record FitsCoded (c : Settings) (first coded codes index keys : List ℕ) (n : ℕ) : Type 0 where
-  pub fits : Fits c first codes index keys n
   pub coded_are : coded ≡ codes_of c.k c.mask first
 
 -- the first column of every row and the next of every column on a strand; behind them all is as it was

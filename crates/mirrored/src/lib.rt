@@ -5,8 +5,9 @@
 
 ghost use Rattle.std.specs.Prelude.{◌≡◌, ◌++◌, ◌≤◌, length, drop};
 ghost use Rattle.rules.specs.Places.{places};
-ghost use Rattle.mirrored.specs.Mirrored.{row_codes, Fits, FitsCoded, Columns, BothColumns};
+ghost use Rattle.mirrored.specs.Mirrored.{row_codes, FirstFits, Columns, BothColumns};
 
+use index::Lookup;
 use rules::Settings;
 
 // The codes of the reverse strand's rows, in front of as many numbers as a sequence can have places; returns how many there are. A few steps a letter.
@@ -26,38 +27,28 @@ fn code_rows(c: Settings, first: &[u8], out: &mut [u64; 16384]) -> usize
 }
 
 // The reverse strand.
-fn reverse(
-    c: Settings,
-    first: &[u8],
-    codes: &[u64],
-    index: &[u32],
-    keys: &[u64],
-    n: usize,
-    firsts: &mut [u32],
-    nexts: &mut [u32],
-)
-    requires fits { Fits c first.now codes.now index.now keys.now n }
+fn reverse(c: Settings, first: &[u8], lookup: Lookup, firsts: &mut [u32], nexts: &mut [u32])
+    requires le_k { 1 ≤ c.k }
+    requires k_bound { c.k ≤ 31 }
+    requires first_len_bound { length first.now ≤ 16384 }
     requires firsts_len { length firsts.old ≡ 16384 }
     requires nexts_len { length nexts.old ≡ 16384 }
-    ensures { Columns c 1 first.now codes.now firsts.old nexts.old firsts.new nexts.new }
+    ensures { Columns c 1 first.now lookup.entry.codes.now firsts.old nexts.old firsts.new nexts.new }
 {
     let mut row_codes = [0u64; 16384];
     let rows = code_rows(c, first, &mut row_codes);
     let mut column_codes = [0u64; 16384];
-    turning::reverse_codes(codes, &mut column_codes);
-    let mut turned = [0u32; 16384];
-    turning::turn_index(codes, index, keys, n, &mut turned);
-    lookups::find_matches(
-        &row_codes[..rows],
-        &column_codes[..codes.len()],
-        &turned,
-        keys,
-        n,
-        directory::low_bits(c.k),
-        c.a,
-        firsts,
-        nexts,
-    );
+    turning::reverse_codes(lookup.codes, &mut column_codes);
+    let mut index = [0u32; 16384];
+    turning::turn_index(lookup, &mut index);
+    let turned = Lookup {
+        codes: &column_codes[..lookup.codes.len()],
+        index: &index,
+        keys: lookup.keys,
+        places: lookup.places,
+    };
+    let low = directory::low_bits(c.k);
+    lookups::find_matches(&row_codes[..rows], turned, low, c.a, firsts, nexts);
 }
 
 // The one strand that is named.
@@ -66,34 +57,22 @@ pub fn strand(
     strand: u32,
     first: &[u8],
     coded: &[u64],
-    codes: &[u64],
-    index: &[u32],
-    keys: &[u64],
-    n: usize,
+    lookup: Lookup,
     firsts: &mut [u32],
     nexts: &mut [u32],
 )
     requires strand_bound { strand ≤ 1 }
-    requires fits_coded { FitsCoded c first.now coded.now codes.now index.now keys.now n }
+    requires fits { FirstFits c first.now coded.now }
     requires firsts_len { length firsts.old ≡ 16384 }
     requires nexts_len { length nexts.old ≡ 16384 }
-    ensures { Columns c strand first.now codes.now firsts.old nexts.old firsts.new nexts.new }
+    ensures { Columns c strand first.now lookup.entry.codes.now firsts.old nexts.old firsts.new nexts.new }
 {
     if strand == 0 {
-        lookups::find_matches(
-            coded,
-            codes,
-            index,
-            keys,
-            n,
-            directory::low_bits(c.k),
-            c.a,
-            firsts,
-            nexts,
-        );
-        return;
+        let low = directory::low_bits(c.k);
+        lookups::find_matches(coded, lookup, low, c.a, firsts, nexts);
+    } else {
+        reverse(c, first, lookup, firsts, nexts);
     }
-    reverse(c, first, codes, index, keys, n, firsts, nexts);
 }
 
 // The strands that the settings of a job name; returns how many rows the reverse strand has to walk, none where it is not asked for.
@@ -101,37 +80,23 @@ pub fn both(
     c: Settings,
     first: &[u8],
     coded: &[u64],
-    codes: &[u64],
-    index: &[u32],
-    keys: &[u64],
-    n: usize,
+    lookup: Lookup,
     firsts: &mut [u32],
     nexts: &mut [u32],
     reverse_firsts: &mut [u32],
     reverse_nexts: &mut [u32],
 ) -> usize
-    requires fits_coded { FitsCoded c first.now coded.now codes.now index.now keys.now n }
+    requires fits { FirstFits c first.now coded.now }
     requires firsts_len { length firsts.old ≡ 16384 }
     requires nexts_len { length nexts.old ≡ 16384 }
     requires reverse_firsts_len { length reverse_firsts.old ≡ 16384 }
     requires reverse_nexts_len { length reverse_nexts.old ≡ 16384 }
-    ensures { BothColumns c first.now coded.now codes.now firsts.old nexts.old reverse_firsts.old reverse_nexts.old firsts.new nexts.new reverse_firsts.new reverse_nexts.new result }
+    ensures { BothColumns c first.now coded.now lookup.entry.codes.now firsts.old nexts.old reverse_firsts.old reverse_nexts.old firsts.new nexts.new reverse_firsts.new reverse_nexts.new result }
 {
-    strand(c, 0, first, coded, codes, index, keys, n, firsts, nexts);
+    strand(c, 0, first, coded, lookup, firsts, nexts);
     if c.strand == 0 {
         return 0;
     }
-    strand(
-        c,
-        1,
-        first,
-        coded,
-        codes,
-        index,
-        keys,
-        n,
-        reverse_firsts,
-        reverse_nexts,
-    );
+    strand(c, 1, first, coded, lookup, reverse_firsts, reverse_nexts);
     coded.len()
 }

@@ -5,6 +5,7 @@ use Prim.Native.Nat.{ℕ, suc, ◌+◌, ◌-◌, ◌<◌, ◌≤◌}
 use native.Mathlib.Omega.{arith}
 use native.Mathlib.Numerals.{add-one}
 use lib.ListN.{length, get_or, set, drop, length-append, length-drop, length-reverse, drop_of_length-le}
+use Rattle.std.proofs.Common.{zero-add}
 use Rattle.std.specs.List.{enumerate_from}
 use Rattle.std.proofs.lemmas.List.{get_or-reverse}
 use Rattle.std.proofs.lemmas.List.FromFn.{length-enumerate_from, get_or-enumerate_from}
@@ -31,11 +32,6 @@ backwards_long {codes} {old} {out} {n} v =
       length-drop n old,
     )
 
-pub backwards_start : {codes old : List ℕ} → length codes ≤ length old → Backwards codes old old 0
-backwards_start {codes} {old} h =
-    let e : length codes ≤ length codes - 0 = omega arith in
-    record { within = omega arith; room = h; front = rw (drop_of_length-le codes e) }
-
 -- one code more, the last of those that are left
 pub backwards_next : {codes old out : List ℕ} {n : ℕ} → Backwards codes old out n → n < length codes
     → Backwards codes old (set out n (get_or codes (length codes - 1 - n) 0)) (n + 1)
@@ -55,12 +51,6 @@ backwards_next {codes} {old} {out} {n} v h =
           (set_at done (get_or old n 0) (drop (suc n) old) x n size);
     }
 
-pub backwards_end : {codes old out : List ℕ} {n : ℕ} → Backwards codes old out n → length codes ≤ n → out ≡ reverse codes ++ drop (length codes) old
-backwards_end {codes} {old} {out} {n} v h =
-    let e : n ≡ length codes = omega (arith, v.within) in
-    let z : length codes - length codes ≡ 0 = omega arith in
-    rw (e, z) at v.front
-
 -- ---- a loop over the codes from the last to the first, each with its turn
 
 pub code_back : (codes : List ℕ) {n i x : ℕ} → (n < length (enumerate_from 0 (reverse codes))) × ((i, x) ≡ get_or (enumerate_from 0 (reverse codes)) n (i, x))
@@ -68,8 +58,9 @@ pub code_back : (codes : List ℕ) {n i x : ℕ} → (n < length (enumerate_from
 code_back codes {n} {i} {x} (l, e) =
     let inside : n < length codes = omega (arith, length-enumerate_from 0 (reverse codes), length-reverse codes) in
     let lr : n < length (reverse codes) = omega (arith, length-reverse codes) in
-    let first : 0 + n ≡ n = omega arith in
-    let zero_read : get_or codes (length codes - 1 - n) x ≡ get_or codes (length codes - 1 - n) 0 = get_or_default_zero codes (length codes - 1 - n) x (omega arith) in
-    let back = get_or-reverse codes n x inside in
+    let back : get_or (reverse codes) n x ≡ get_or codes (length codes - 1 - n) x = get_or-reverse codes n x inside in
+    let plain : get_or codes (length codes - 1 - n) x ≡ get_or codes (length codes - 1 - n) 0 = get_or_default_zero codes (length codes - 1 - n) x (omega arith) in
     let at : (i, x) ≡ (0 + n, get_or (reverse codes) n x) = e ∙ get_or-enumerate_from 0 (reverse codes) n (i, x) lr in
-    (inside, (ap (λ (p : ℕ × ℕ). p.0) at ∙ first, ap (λ (p : ℕ × ℕ). p.1) at ∙ back ∙ zero_read))
+    let turn : i ≡ 0 + n = ap (λ (p : ℕ × ℕ). p.0) at in
+    let read : x ≡ get_or (reverse codes) n x = ap (λ (p : ℕ × ℕ). p.1) at in
+    (inside, (turn ∙ zero-add n, read ∙ back ∙ plain))

@@ -21,6 +21,7 @@ use Rattle.requests.proofs.Backwards.{code_back, kmers_back}
 use Rattle.order.proofs.Cases.{le_or_lt, after_set}
 use Rattle.ownership.specs.Owners.{Kept}
 use Rattle.index.specs.Keys.{Indexed}
+use Rattle.index.proofs.Between.{between, between_length, between_here}
 use Rattle.turning.specs.Turning.{RunTo, Within, RunTurned}
 
 -- ---- the end of a run
@@ -29,24 +30,18 @@ use Rattle.turning.specs.Turning.{RunTo, Within, RunTurned}
 abbrev pub differs : ℕ → ℕ → Bool
 differs key x = not (nat_eq x key)
 
--- the first n keys from one on
-abbrev pub keys_from : List ℕ → ℕ → ℕ → List ℕ
-keys_from keys from n = take (n - from) (drop from keys)
-
 module _ (keys : List ℕ) (from n : ℕ) (some : from < n) (room : n ≤ length keys) where
   abbrev key : ℕ
   key = get_or keys from 0
 
   abbrev left : List ℕ
-  left = keys_from keys from n
+  left = between keys from n
 
   left_length : length left ≡ n - from
-  left_length = omega (arith, length-take {A = ℕ}, length-drop {A = ℕ})
+  left_length = between_length keys from n room
 
   key_at : (q : ℕ) → from ≤ q → q < n → get_or left (q - from) 0 ≡ get_or keys q 0
-  key_at q a b =
-      let e : from + (q - from) ≡ q = omega arith in
-      get_or-take (n - from) (drop from keys) (q - from) 0 (omega arith) ∙ get_or-drop from keys (q - from) 0 ∙ ap (λ (m : ℕ). get_or keys m 0) e
+  key_at = between_here keys from n room
 
   same_key : (q : ℕ) → from ≤ q → q < n → differs key (get_or left (q - from) 0) ≡ false → get_or keys q 0 ≡ key
   same_key q a b h = let e = key_at q a b in grind (arith, nat_tests)
@@ -84,10 +79,6 @@ module _ (keys : List ℕ) (from n : ℕ) (some : from < n) (room : n ≤ length
 
 -- ---- a run turned, up to index q
 
--- a place of the columns can be counted from any number past them
-pub place_fits : {index : List ℕ} {columns from to q past : ℕ} → Within index columns from to → from ≤ q → q < to → columns ≤ past → get_or index q 0 ≤ past
-place_fits {q = q} w a b l = omega (arith, w.within q a b)
-
 pub record TurnedTo (index : List ℕ) (columns from to : ℕ) (out₀ out : List ℕ) (q : ℕ) : Type 0 where
   pub after : from ≤ q
   pub upto : q ≤ to
@@ -95,30 +86,6 @@ pub record TurnedTo (index : List ℕ) (columns from to : ℕ) (out₀ out : Lis
   pub inside : (r : ℕ) → from ≤ r → r < q → get_or out r 0 ≡ columns + 1 - get_or index (from + (to - 1 - r)) 0
   pub below : (r : ℕ) → r < from → get_or out r 0 ≡ get_or out₀ r 0
   pub above : (r : ℕ) → q ≤ r → get_or out r 0 ≡ get_or out₀ r 0
-
-pub turned_start : {index out : List ℕ} {columns from to : ℕ} → from ≤ to → TurnedTo index columns from to out out from
-turned_start h =
-    record { after = omega arith; upto = h; long = refl; inside = λ r a b. absurd (omega arith); below = λ r l. refl; above = λ r l. refl }
-
-pub turned_next : {index out₀ out : List ℕ} {columns from to q v : ℕ} → TurnedTo index columns from to out₀ out q → q < to → q < length out
-    → v ≡ columns + 1 - get_or index (from + (to - 1 - q)) 0 → TurnedTo index columns from to out₀ (set out q v) (q + 1)
-turned_next {index} {out₀} {out} {columns} {from} {to} {q} {v} w l h e = record {
-  after = omega (arith, w.after);
-  upto = omega arith;
-  long = length-set out q v ∙ w.long;
-  inside = after_set (λ r x. from ≤ r → r < q + 1 → x ≡ columns + 1 - get_or index (from + (to - 1 - r)) 0) out q v h (λ _ _. e) (λ r d a b. w.inside r a (omega arith));
-  below = after_set (λ r x. r < from → x ≡ get_or out₀ r 0) out q v h (λ k. absurd (omega (arith, w.after))) (λ r d k. w.below r k);
-  above = after_set (λ r x. q + 1 ≤ r → x ≡ get_or out₀ r 0) out q v h (λ k. absurd (omega arith)) (λ r d k. w.above r (omega arith));
-}
-
-pub turned_end : {index out₀ out : List ℕ} {columns from to q : ℕ} → TurnedTo index columns from to out₀ out q → to ≤ q → RunTurned index columns from to out₀ out
-turned_end w h =
-    record {
-      long = w.long;
-      inside = λ r a b. w.inside r a (omega arith);
-      below = w.below;
-      above = λ r l. w.above r (omega (arith, w.upto));
-    }
 
 -- ---- the whole index, up to the run that begins at `from`
 

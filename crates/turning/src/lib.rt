@@ -3,10 +3,11 @@
 #![tactic(auto)]
 
 ghost use Rattle.std.specs.Prelude.{◌≡◌, ◌++◌, reverse, ◌≤◌, ◌<◌, length, drop};
-ghost use Rattle.requests.specs.Index.{kmer_places};
 ghost use Rattle.index.specs.Keys.{Indexed};
 ghost use Rattle.ownership.specs.Owners.{Kept};
 ghost use Rattle.turning.specs.Turning.{RunTo, Within, RunTurned};
+
+use index::Lookup;
 
 // The codes from the last place to the first: one turn a place.
 pub fn reverse_codes(codes: &[u64], out: &mut [u64])
@@ -45,20 +46,18 @@ fn turn_run(index: &[u32], from: usize, to: usize, columns: u32, out: &mut [u32]
     }
 }
 
-// The index of the codes read backwards, from the n numbers of that of the codes: a turn a run, and two a place.
-pub fn turn_index(codes: &[u64], index: &[u32], keys: &[u64], n: usize, out: &mut [u32])
-    requires n_value { n ≡ kmer_places codes.now }
-    requires codes_len_bound { length codes.now ≤ 16384 }
-    requires codes_in_bounds { length codes.now ≤ length out.old }
-    requires indexed { Indexed codes.now index.now keys.now }
-    ensures indexed_2 { Indexed (reverse codes.now) out.new keys.now }
-    ensures kept { Kept out.old out.new n }
+// The index of the codes read backwards, from that of the codes: a turn a run, and two a place.
+pub fn turn_index(lookup: Lookup, out: &mut [u32])
+    requires { length lookup.codes.now ≤ length out.old }
+    ensures indexed { Indexed (reverse lookup.entry.codes.now) out.new lookup.entry.keys.now }
+    ensures kept { Kept out.old out.new lookup.entry.places }
 {
-    let columns = codes.len() as u32;
+    let columns = lookup.codes.len() as u32;
     let mut from: usize = 0;
-    while from < n {
-        let to = run_end(keys, from, n);
-        turn_run(index, from, to, columns, out);
+    // kept: a turn takes a whole run, so no range counts it
+    while from < lookup.places {
+        let to = run_end(lookup.keys, from, lookup.places);
+        turn_run(lookup.index, from, to, columns, out);
         from = to;
     }
 }

@@ -1,12 +1,13 @@
 -- Both ways are the two sides of the condition. Assumes nothing.
-use mathlib.Core.Path.{◌∙◌}
-use Rattle.directory.proofs.Neighbours.{next_none, next_found}
+use Rattle.std.proofs.Common.{rules, arith}
+use Rattle.std.proofs.lemmas.Bool.Decides.{nat_tests}
+use Rattle.directory.specs.Directory.{next_near}
 use Rattle.directory.proofs.next_near.Goals as goal
 
 pub returns-then-owner-eq0 : goal.returns-then-owner-eq0
-returns-then-owner-eq0 c =
-    next_none _ c.if-owner-eq0.true
+unfolding next_near
+returns-then-owner-eq0 c = grind (arith, nat_tests)
 
 pub returns-else-owner-eq0 : goal.returns-else-owner-eq0
-returns-else-owner-eq0 c =
-    c.wide.ensures.0 ∙ next_found _ c.if-owner-eq0.false
+unfolding next_near
+returns-else-owner-eq0 c = grind (arith, nat_tests)

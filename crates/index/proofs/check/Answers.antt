@@ -5,16 +5,16 @@ use Rattle.index.proofs.check.Goals as goal
 
 pub returns-then-index-places : goal.returns-then-index-places
 returns-then-index-places c =
-    record { places_value = c.count_kmers-places.ensures; begins_value = pass_short _ _ c.if-index-places.true c.count_kmers-places.ensures; keyed = rw (← c.count_kmers-places.ensures) (read_none c.if-index-places.true) }
+    record { value = rw (← pass_short c.args.codes.now c.args.index.now c.if-index-places.true c.count_kmers-places.ensures); keyed = rw (← c.count_kmers-places.ensures) (read_none c.if-index-places.true) }
 
 pub read_keys-requires : goal.read_keys-requires
 read_keys-requires c =
     record { n_in_bounds = c.if-index-places.false; n_in_bounds_2 = omega (arith, c.count_kmers-places.ensures, few_kmers c.args.codes.now, c.requires) }
 
-pub begins-begins-requires : goal.begins-begins-requires
-begins-begins-requires c =
+pub begins-requires : goal.begins-requires
+begins-requires c =
     record { n_value = c.count_kmers-places.ensures; n_in_bounds = c.if-index-places.false; n_in_bounds_2 = omega (arith, c.count_kmers-places.ensures, few_kmers c.args.codes.now, c.requires, c.read_keys.ensures.long); keyed = keyed_again c.read_keys.ensures }
 
 pub returns : goal.returns
 returns c =
-    record { places_value = c.count_kmers-places.ensures; begins_value = c.begins-begins.ensures; keyed = rw (← c.count_kmers-places.ensures) (read_all c.if-index-places.false c.read_keys.ensures) }
+    record { value = rw (← c.begins.ensures, ← c.count_kmers-places.ensures) c.then_some.ensures; keyed = rw (← c.count_kmers-places.ensures) (read_all c.if-index-places.false c.read_keys.ensures) }

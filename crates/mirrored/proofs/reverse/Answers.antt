@@ -22,23 +22,31 @@ slice_bounds-find_matches-end c =
 pub returns : goal.returns
 unfolding column_codes
 returns c =
-    let columns_front : Front (column_codes 1 c.args.codes.now) c.reverse_codes.new.out (length c.args.codes.now) = front_of (column_codes 1 c.args.codes.now) _ (sym (column_count 1 c.args.codes.now)) c.reverse_codes.ensures in
+    let columns_front : Front (column_codes 1 c.args.lookup.codes.now) c.reverse_codes.new.out (length c.args.lookup.codes.now) = front_of (column_codes 1 c.args.lookup.codes.now) _ (sym (column_count 1 c.args.lookup.codes.now)) c.reverse_codes.ensures in
     let rows_front : Front (row_codes c.args.c 1 c.args.first.now) c.code_rows-rows.new.out c.code_rows-rows.result = front_of (row_codes c.args.c 1 c.args.first.now) _ (c.code_rows-rows.ensures.value ∙ sym (row_count c.args.c 1 c.args.first.now)) c.code_rows-rows.ensures.out_after in
     strand_columns rows_front.front columns_front.front c.find_matches.ensures.first_columns c.find_matches.ensures.next_columns
+
+pub invariant_of-turned : goal.invariant_of-turned
+unfolding column_codes
+invariant_of-turned c =
+    let l = c.args.lookup in
+    let columns_front : Front (column_codes 1 l.codes.now) c.reverse_codes.new.out (length l.codes.now) = front_of (column_codes 1 l.codes.now) _ (sym (column_count 1 l.codes.now)) c.reverse_codes.ensures in
+    record {
+      few = omega (arith, columns_front.long, l.few);
+      counted = rw columns_front.front (l.counted ∙ sym (kmers_back l.codes.now));
+      indexed = rw columns_front.front c.turn_index.ensures.indexed;
+    }
 
 pub find_matches-requires : goal.find_matches-requires
 unfolding column_codes
 find_matches-requires c =
-    let columns_front : Front (column_codes 1 c.args.codes.now) c.reverse_codes.new.out (length c.args.codes.now) = front_of (column_codes 1 c.args.codes.now) _ (sym (column_count 1 c.args.codes.now)) c.reverse_codes.ensures in
+    let l = c.args.lookup in
+    let columns_front : Front (column_codes 1 l.codes.now) c.reverse_codes.new.out (length l.codes.now) = front_of (column_codes 1 l.codes.now) _ (sym (column_count 1 l.codes.now)) c.reverse_codes.ensures in
     let rows_front : Front (row_codes c.args.c 1 c.args.first.now) c.code_rows-rows.new.out c.code_rows-rows.result = front_of (row_codes c.args.c 1 c.args.first.now) _ (c.code_rows-rows.ensures.value ∙ sym (row_count c.args.c 1 c.args.first.now)) c.code_rows-rows.ensures.out_after in
-    let ok = c.requires.fits in
-    let few = places_few c.args.c.k c.args.first.now ok.some_base ok.short_first in
+    let few = places_few c.args.c.k c.args.first.now c.requires.le_k c.requires.first_len_bound in
     record {
-      n_value = rw columns_front.front (ok.places ∙ sym (kmers_back c.args.codes.now));
-      low_bound = omega (arith, c.low_bits.ensures, ok.few_bases);
-      first_len_bound = omega (arith, rows_front.long, c.code_rows-rows.ensures.value, few);
-      second_len_bound = omega (arith, columns_front.long, ok.few_columns);
-      first_in_bounds = omega (arith, rows_front.long, c.code_rows-rows.ensures.value, few, c.requires.firsts_len);
-      second_in_bounds = omega (arith, columns_front.long, ok.few_columns, c.requires.nexts_len);
-      indexed = rw columns_front.front c.turn_index.ensures.indexed_2;
+      low_bound = omega (arith, c.low_bits-low.ensures, c.requires.k_bound);
+      few_rows = omega (arith, rows_front.long, c.code_rows-rows.ensures.value, few);
+      rows_in_bounds = omega (arith, rows_front.long, c.code_rows-rows.ensures.value, few, c.requires.firsts_len);
+      columns_in_bounds = omega (arith, columns_front.long, l.few, c.requires.nexts_len);
     }

@@ -4,7 +4,7 @@ use Rattle.turning.proofs.Runs.{Turning}
 use Rattle.turning.proofs.turn_index.Given as goal
 
 abbrev pub invariant-loop-from : goal.invariant-loop-from
-invariant-loop-from l = Turning l.codes l.keys l.initial.out l.out l.from
+invariant-loop-from l = Turning l.lookup.codes.now l.lookup.keys.now l.initial.out l.out l.from
 
 abbrev pub decreases-loop-from : goal.decreases-loop-from
-decreases-loop-from l = l.n - l.from
+decreases-loop-from l = l.lookup.places - l.from
