@@ -7,9 +7,10 @@ ghost use Rattle.rules.specs.Letters.{as_read};
 ghost use Rattle.rules.specs.Answers.{left};
 ghost use Rattle.requests.specs.Index.{codes_of};
 ghost use Rattle.walks.specs.Matched.{Fits};
-ghost use Rattle.mirrored.specs.Mirrored.{FitsCoded};
+ghost use Rattle.mirrored.specs.Mirrored.{FirstFits};
 ghost use Rattle.accepted.specs.Coded.{compared_coded, stopped_coded};
 
+use index::Lookup;
 use rules::{Answer, Settings};
 
 // Lists what is shared on the strands that are named.
@@ -18,16 +19,13 @@ pub fn compare_indexed(
     first: &[u8],
     second: &[u8],
     coded: &[u64],
-    codes: &[u64],
-    index: &[u32],
-    keys: &[u64],
-    n: usize,
+    lookup: Lookup,
     work: &mut [u32],
     list: &mut [u32],
 ) -> Answer
     requires fits { Fits c coded.now second.now }
-    requires fits_coded { FitsCoded c first.now coded.now codes.now index.now keys.now n }
-    requires codes_value { codes.now ≡ codes_of c.k c.mask second.now }
+    requires fits_first { FirstFits c first.now coded.now }
+    requires codes_value { lookup.codes.now ≡ codes_of c.k c.mask second.now }
     ensures { left result work.new list.new ≡ compared_coded c coded.now (as_read c.mask second.now) work.old list.old }
 {
     let rows = coded.len();
@@ -40,10 +38,7 @@ pub fn compare_indexed(
         c,
         first,
         coded,
-        codes,
-        index,
-        keys,
-        n,
+        lookup,
         &mut firsts,
         &mut nexts,
         &mut reverse_firsts,
@@ -67,33 +62,19 @@ pub fn stop_indexed(
     first: &[u8],
     second: &[u8],
     coded: &[u64],
-    codes: &[u64],
-    index: &[u32],
-    keys: &[u64],
-    n: usize,
+    lookup: Lookup,
     work: &mut [u32],
     row: u32,
 ) -> Answer
     requires fits { Fits c coded.now second.now }
-    requires fits_coded { FitsCoded c first.now coded.now codes.now index.now keys.now n }
-    requires codes_value { codes.now ≡ codes_of c.k c.mask second.now }
+    requires fits_first { FirstFits c first.now coded.now }
+    requires codes_value { lookup.codes.now ≡ codes_of c.k c.mask second.now }
     ensures { left result work.new [] ≡ stopped_coded c coded.now (as_read c.mask second.now) work.old row }
 {
     let rows = coded.len();
     // as above
     let mut firsts = [0u32; 16384];
     let mut nexts = [0u32; 16384];
-    mirrored::strand(
-        c,
-        c.strand,
-        first,
-        coded,
-        codes,
-        index,
-        keys,
-        n,
-        &mut firsts,
-        &mut nexts,
-    );
+    mirrored::strand(c, c.strand, first, coded, lookup, &mut firsts, &mut nexts);
     stopping::stop_matches(&firsts[..rows], &nexts, c, work, numbers::wide(row))
 }

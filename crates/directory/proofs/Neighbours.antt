@@ -1,13 +1,11 @@
 -- A row's code looked for beside the column of the row before it, and owners written row by row. Assumes nothing.
-use mathlib.Core.Path.{◌≡◌, refl, sym, ap, ◌∙◌}
+use mathlib.Core.Path.{◌≡◌, refl, ap, ◌∙◌}
 use mathlib.Core.Bool.{Bool, true, false, cond}
 use mathlib.Core.List.{List}
 use Prim.Native.Nat.{ℕ, ◌+◌, ◌<◌, ◌≤◌}
 use native.Mathlib.Omega.{arith}
-use borrow.Author.Tests.{eqb-true, eqb-false, eq-eqb, ne_eqb}
 use lib.Dec.{eqb}
 use lib.ListN.{length, get_or, set}
-use Rattle.order.proofs.Cases.{true_not_false}
 use Rattle.ownership.specs.Owners.{own_of, Owned}
 use Rattle.ownership.proofs.Owns.{owner_of, owned_start, owned_next, owned_end}
 use Rattle.directory.specs.Directory.{Near, next_near}

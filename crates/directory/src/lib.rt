@@ -89,7 +89,11 @@ impl Directory<'_> {
         let end = usize::from(self.ends[bucket(c, self.low)]);
         let begin = reach(keys, end, c);
         let q = lower(keys, begin, end, c);
-        if q < end && keys[q] == c { self.lookup.index[q] } else { 0 }
+        if q < end && keys[q] == c {
+            self.lookup.index[q]
+        } else {
+            0
+        }
     }
 }
 
@@ -106,11 +110,7 @@ fn next_near(near: usize, owner: u32) -> usize
     requires { near < 2 ^ 32 }
     ensures { result ≡ next_near near owner }
 {
-    if owner == 0 {
-        near + 1
-    } else {
-        owner as usize
-    }
+    if owner == 0 { near + 1 } else { owner as usize }
 }
 
 // The owner of each row's code, where every column's is in own.

@@ -7,8 +7,9 @@ use native.Mathlib.Omega.{arith}
 use native.Mathlib.Numerals.{add-one}
 use borrow.Author.Tests.{lt-ltb, le-ltb}
 use lib.Dec.{T, ltb}
-use lib.ListN.{length, get_or, set, length-set, take}
-use Rattle.std.proofs.Common.{count_by, nat_eq}
+use lib.ListN.{length, get_or, take}
+use Rattle.std.proofs.Common.{count_by, nat_eq, Option, Some, None}
+use Rattle.std.specs.Bool.{then_some}
 use lib.Seq.{take-length}
 use Rattle.std.proofs.lemmas.Bool.Decides.{nat_tests}
 use Rattle.std.proofs.lemmas.List.Sums.{count_by_more_yes, count_by_more_no}
@@ -16,7 +17,6 @@ use Rattle.rules.specs.Lists.{count_to}
 use Rattle.rules.specs.Codes.{code_at}
 use Rattle.requests.specs.Index.{has_kmer, index_of_codes, kmer_places, StandsBefore, begins_with}
 use Rattle.rules.proofs.Tests.{tests, T_true, T_false, Three, below, equal, above, three}
-use Rattle.order.proofs.Cases.{after_set}
 use Rattle.requests.proofs.IndexPass.{Rising, rising_start, rising_next, rising_first, rising_end, indexed_rising, indexed_long, wrong_short}
 use Rattle.index.specs.Keys.{Keyed, numbers_read, goes_on, Indexed}
 
@@ -151,3 +151,12 @@ unfolding numbers_read
 held_indexed {codes} {index} t room k =
     let all = le-ltb (length index) (kmer_places codes) (indexed_long codes index t) in
     record { begins = t; long = omega (arith, few_kmers codes, k.long); key = λ q l. k.key q (rw all l) }
+
+-- what `index::check` returns says whether it does, and how many numbers the index has
+pub held_some : (b : Bool) (m : ℕ) {n : ℕ} {r : Option ℕ} → r ≡ then_some b m → r ≡ Some n → (b ≡ true) × (n ≡ m)
+held_some true m e d = (refl, cc)
+held_some false m e d = cc
+
+pub held_none : (b : Bool) (m : ℕ) {r : Option ℕ} → r ≡ then_some b m → r ≡ None → b ≡ false
+held_none true m e d = cc
+held_none false m e d = refl

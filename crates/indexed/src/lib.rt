@@ -6,6 +6,7 @@ ghost use Rattle.std.specs.Prelude.{◌≡◌, []};
 ghost use Rattle.rules.specs.Answers.{left};
 ghost use Rattle.requests.specs.Index.{compared_over, stopped_over};
 
+use index::Lookup;
 use rules::{Answer, Settings};
 
 // The compare job. Checks 1 to 6, with 9 and 10 after 4, then 12, 7 and 8: the first that applies.
@@ -27,24 +28,18 @@ pub fn compare_over(
     let mut codes = [0u64; 16384];
     let columns = kmers::code_all(second, settings.k, settings.mask, &mut codes);
     let mut keys = [0u64; 16384];
-    let held = index::check(&codes[..columns], index, &mut keys);
-    if held.begins {
-        let mut coded = [0u64; 16384];
-        let rows = kmers::code_all(first, settings.k, settings.mask, &mut coded);
-        return admitted::compare_indexed(
-            settings,
-            first,
-            second,
-            &coded[..rows],
-            &codes[..columns],
-            index,
-            &keys,
-            held.places,
-            work,
-            list,
-        );
-    }
-    answers::refuse(12, 0, 0)
+    let Some(places) = index::check(&codes[..columns], index, &mut keys) else {
+        return answers::refuse(12, 0, 0);
+    };
+    let lookup = Lookup {
+        codes: &codes[..columns],
+        index,
+        keys: &keys,
+        places,
+    };
+    let mut coded = [0u64; 16384];
+    let rows = kmers::code_all(first, settings.k, settings.mask, &mut coded);
+    admitted::compare_indexed(settings, first, second, &coded[..rows], lookup, work, list)
 }
 
 // The stopped sweep. Checks 1 to 6, with 9 and 10 after 4, then 12, 7 and 19.
@@ -66,22 +61,16 @@ pub fn stopped_over(
     let mut codes = [0u64; 16384];
     let columns = kmers::code_all(second, settings.k, settings.mask, &mut codes);
     let mut keys = [0u64; 16384];
-    let held = index::check(&codes[..columns], index, &mut keys);
-    if held.begins {
-        let mut coded = [0u64; 16384];
-        let rows = kmers::code_all(first, settings.k, settings.mask, &mut coded);
-        return admitted::stop_indexed(
-            settings,
-            first,
-            second,
-            &coded[..rows],
-            &codes[..columns],
-            index,
-            &keys,
-            held.places,
-            work,
-            row,
-        );
-    }
-    answers::refuse(12, 0, 0)
+    let Some(places) = index::check(&codes[..columns], index, &mut keys) else {
+        return answers::refuse(12, 0, 0);
+    };
+    let lookup = Lookup {
+        codes: &codes[..columns],
+        index,
+        keys: &keys,
+        places,
+    };
+    let mut coded = [0u64; 16384];
+    let rows = kmers::code_all(first, settings.k, settings.mask, &mut coded);
+    admitted::stop_indexed(settings, first, second, &coded[..rows], lookup, work, row)
 }

@@ -1,5 +1,5 @@
 -- What is found on a strand, from where it was looked up. Assumes nothing.
-use mathlib.Core.Path.{◌≡◌, refl, ap, subst⁻¹}
+use mathlib.Core.Path.{◌≡◌, refl, ap}
 use mathlib.Core.List.{List}
 use Prim.Native.Nat.{ℕ, ◌≤◌}
 use native.Mathlib.Omega.{arith}

@@ -4,9 +4,8 @@ use mathlib.Core.List.{List, reverse}
 use mathlib.Core.Logic.{◌⊎◌, inl, inr}
 use Prim.Native.Nat.{ℕ, zero, suc, ◌+◌, ◌-◌, ◌<◌, ◌≤◌}
 use native.Mathlib.Omega.{arith}
-use lib.ListN.{length, get_or, set, length-set, take, drop, length-take, length-drop}
-use Rattle.std.proofs.Common.{Bool, true, false, not, nat_eq, Some, None, get_or-take, add-zero}
-use Rattle.std.proofs.lemmas.List.{get_or-drop}
+use lib.ListN.{length, get_or}
+use Rattle.std.proofs.Common.{Bool, true, false, not, nat_eq, Some, None, add-zero}
 use Rattle.std.proofs.lemmas.List.Quantifiers.{position-Some}
 use Rattle.std.proofs.lemmas.Bool.Decides.{nat_tests}
 use Rattle.std.specs.Prelude.{position}
@@ -18,7 +17,7 @@ use Rattle.requests.specs.Index.{kmer_places}
 use Rattle.requests.proofs.Index.{code_inside}
 use Rattle.requests.proofs.IndexPass.{Rising, rising_end, indexed_long, indexed_rising, indexed_order, codes_rise}
 use Rattle.requests.proofs.Backwards.{code_back, kmers_back}
-use Rattle.order.proofs.Cases.{le_or_lt, after_set}
+use Rattle.order.proofs.Cases.{le_or_lt}
 use Rattle.ownership.specs.Owners.{Kept}
 use Rattle.index.specs.Keys.{Indexed}
 use Rattle.index.proofs.Between.{between, between_length, between_here}

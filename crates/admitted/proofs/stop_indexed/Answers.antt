@@ -9,10 +9,10 @@ use Rattle.admitted.proofs.stop_indexed.Goals as goal
 
 pub returns : goal.returns
 returns c =
-    let walked : Matched c.args.c c.args.coded.now (on_strand c.args.c.strand (as_read c.args.c.mask c.args.second.now)) c.strand.new.firsts c.strand.new.nexts (length c.args.coded.now) = columns_matched c.args.second.now c.requires.fits_coded c.requires.codes_value c.args.c.strand blank blank c.strand.ensures in
+    let walked : Matched c.args.c c.args.coded.now (on_strand c.args.c.strand (as_read c.args.c.mask c.args.second.now)) c.strand.new.firsts c.strand.new.nexts (length c.args.coded.now) = columns_matched c.args.second.now c.requires.fits_first c.args.lookup.few c.requires.codes_value c.args.c.strand blank blank c.strand.ensures in
     stops _ walked _ c.wide.ensures.0 c.stop_matches.ensures
 
 pub stop_matches-requires : goal.stop_matches-requires
 stop_matches-requires c =
-    let walked : Matched c.args.c c.args.coded.now (on_strand c.args.c.strand (as_read c.args.c.mask c.args.second.now)) c.strand.new.firsts c.strand.new.nexts (length c.args.coded.now) = columns_matched c.args.second.now c.requires.fits_coded c.requires.codes_value c.args.c.strand blank blank c.strand.ensures in
+    let walked : Matched c.args.c c.args.coded.now (on_strand c.args.c.strand (as_read c.args.c.mask c.args.second.now)) c.strand.new.firsts c.strand.new.nexts (length c.args.coded.now) = columns_matched c.args.second.now c.requires.fits_first c.args.lookup.few c.requires.codes_value c.args.c.strand blank blank c.strand.ensures in
     walks_fit c.requires.fits walked

@@ -1,5 +1,5 @@
 -- The keys from begin to end rise, so those below the code stand before the others. Assumes nothing.
-use Rattle.std.proofs.Common.{rules, take, drop, ◌-◌}
+use Rattle.std.proofs.Common.{rules}
 use Rattle.std.proofs.lemmas.List.Sorted.{IsPartitionPoint-from_clause}
 use Rattle.directory.proofs.Lookups.{under, parted, lower_at}
 use Rattle.directory.proofs.lower.Goals as goal

@@ -1,5 +1,5 @@
 -- Both ways are the two sides of the condition. Assumes nothing.
-use Rattle.std.proofs.Common.{rules, arith}
+use Rattle.std.proofs.Common.{arith}
 use Rattle.std.proofs.lemmas.Bool.Decides.{nat_tests}
 use Rattle.directory.specs.Directory.{next_near}
 use Rattle.directory.proofs.next_near.Goals as goal

@@ -2,7 +2,7 @@
 use Rattle.kmers.proofs.Codes.{coded_front}
 use Rattle.refusals.proofs.Checking.{number_passes, accepted}
 use Rattle.compare.proofs.Entries.{fits, compares}
-use Rattle.indexed.proofs.Over.{refuses_over, read_of, coded_of, columns_coded, wrong_compare, right_compare, fits_over}
+use Rattle.indexed.proofs.Over.{refuses_over, read_of, coded_of, columns_coded, wrong_compare, right_compare, fits_over, few_over, counted_over, indexed_over}
 use Rattle.indexed.proofs.compare_over.Goals as goal
 
 -- the checks refuse
@@ -25,13 +25,19 @@ slice_bounds-check-end c = (coded_front _ _ _ _ c.code_all-columns.ensures.value
 
 -- the slice is wrong
 
-pub returns : goal.returns
-returns c =
+pub returns-in_default : goal.returns-in_default
+returns-in_default c =
     let read = read_of c.check-refused.ensures c.if-refused-ne0.false _ c.code_all-columns.ensures.value c.code_all-columns.ensures.out_after
-    c.check-held.ensures.places_value c.check-held.ensures.begins_value c.check-held.ensures.keyed in
-    wrong_compare _ _ _ _ read c.if-held.false c.refuse.ensures _ _
+    c.check.ensures.value c.check.ensures.keyed in
+    wrong_compare _ _ _ _ read c.in_default.is c.refuse.ensures _ _
 
 -- it is right: the codes of the first sequence, and the job
+
+pub slice_bounds-codes-end-2 : goal.slice_bounds-codes-end-2
+slice_bounds-codes-end-2 c = (coded_front _ _ _ _ c.code_all-columns.ensures.value c.code_all-columns.ensures.out_after).inside
+
+pub slice_bounds-lookup-end : goal.slice_bounds-lookup-end
+slice_bounds-lookup-end c = (coded_front _ _ _ _ c.code_all-columns.ensures.value c.code_all-columns.ensures.out_after).long
 
 pub code_all-rows-requires : goal.code_all-rows-requires
 code_all-rows-requires c =
@@ -44,26 +50,30 @@ slice_bounds-coded-end c = (coded_front _ _ _ _ c.code_all-rows.ensures.value c.
 pub slice_bounds-compare_indexed-end : goal.slice_bounds-compare_indexed-end
 slice_bounds-compare_indexed-end c = (coded_front _ _ _ _ c.code_all-rows.ensures.value c.code_all-rows.ensures.out_after).long
 
-pub slice_bounds-codes-end-then-held : goal.slice_bounds-codes-end-then-held
-slice_bounds-codes-end-then-held c = (coded_front _ _ _ _ c.code_all-columns.ensures.value c.code_all-columns.ensures.out_after).inside
-
-pub slice_bounds-compare_indexed-end-then-held : goal.slice_bounds-compare_indexed-end-then-held
-slice_bounds-compare_indexed-end-then-held c = (coded_front _ _ _ _ c.code_all-columns.ensures.value c.code_all-columns.ensures.out_after).long
+pub invariant_of-lookup : goal.invariant_of-lookup
+invariant_of-lookup c =
+    let read = read_of c.check-refused.ensures c.if-refused-ne0.false _ c.code_all-columns.ensures.value c.code_all-columns.ensures.out_after
+    c.check.ensures.value c.check.ensures.keyed in
+    record {
+      few = few_over _ _ _ _ read c.in-Some.is;
+      counted = counted_over _ _ _ _ read c.in-Some.is;
+      indexed = indexed_over _ _ _ _ read c.in-Some.is;
+    }
 
 pub compare_indexed-requires : goal.compare_indexed-requires
 compare_indexed-requires c =
     let read = read_of c.check-refused.ensures c.if-refused-ne0.false _ c.code_all-columns.ensures.value c.code_all-columns.ensures.out_after
-    c.check-held.ensures.places_value c.check-held.ensures.begins_value c.check-held.ensures.keyed in
+    c.check.ensures.value c.check.ensures.keyed in
     let ready = coded_of c.check-refused.ensures c.if-refused-ne0.false _ c.code_all-rows.ensures.value c.code_all-rows.ensures.out_after in
     record {
       fits = fits _ _ _ ready;
-      fits_coded = fits_over _ _ _ _ read c.if-held.true ready;
+      fits_first = fits_over _ _ _ _ read ready;
       codes_value = columns_coded _ _ _ _ read;
     }
 
-pub returns-then-held : goal.returns-then-held
-returns-then-held c =
+pub returns : goal.returns
+returns c =
     let read = read_of c.check-refused.ensures c.if-refused-ne0.false _ c.code_all-columns.ensures.value c.code_all-columns.ensures.out_after
-    c.check-held.ensures.places_value c.check-held.ensures.begins_value c.check-held.ensures.keyed in
+    c.check.ensures.value c.check.ensures.keyed in
     let ready = coded_of c.check-refused.ensures c.if-refused-ne0.false _ c.code_all-rows.ensures.value c.code_all-rows.ensures.out_after in
-    right_compare _ _ _ _ read c.if-held.true _ _ (compares _ _ _ ready _ _ c.compare_indexed.ensures)
+    right_compare _ _ _ _ read c.in-Some.is _ _ (compares _ _ _ ready _ _ c.compare_indexed.ensures)

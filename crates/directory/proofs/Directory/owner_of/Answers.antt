@@ -43,6 +43,6 @@ returns-then-keys-q c =
 pub returns-else-q-end : goal.returns-else-q-end
 returns-else-q-end c =
     elim c.else-q-end.branch [
-      else-q-end-via-then-q-end+else-keys-q w ↦ owner_other c.args.self.lookup.indexed c.args.self.bucketed (ending _ c.bucket.ensures c.from-end.ensures) c.if-c-eq0.false c.reach-begin.ensures c.lower-q.ensures w.if-q-end.true w.if-keys-q.false
-    | else-q-end-via-else-q-end w ↦ owner_past c.args.self.lookup.indexed c.args.self.bucketed (ending _ c.bucket.ensures c.from-end.ensures) c.if-c-eq0.false c.reach-begin.ensures c.lower-q.ensures w.if-q-end.false
+      | else-q-end-via-then-q-end+else-keys-q w ↦ owner_other c.args.self.lookup.indexed c.args.self.bucketed (ending _ c.bucket.ensures c.from-end.ensures) c.if-c-eq0.false c.reach-begin.ensures c.lower-q.ensures w.if-q-end.true w.if-keys-q.false
+      | else-q-end-via-else-q-end w ↦ owner_past c.args.self.lookup.indexed c.args.self.bucketed (ending _ c.bucket.ensures c.from-end.ensures) c.if-c-eq0.false c.reach-begin.ensures c.lower-q.ensures w.if-q-end.false
     ]
