@@ -10,6 +10,7 @@ ghost use Rattle.decoding.specs.Reading.{numbered_frame, frame_in, bytes_left};
 use lines::FrameError;
 
 // The half of a capital digit, where the byte is one.
+#[tactic(auto, using(std::proofs::lemmas::Bool::Decides::nat_tests), unfolding(crate::specs::Digits::nibble_of))]
 fn nibble(digit: u8) -> Option<u8>
     ensures value { unwrap_or result 16 ≡ nibble_of digit }
     ensures half { IfSome result (λ n. n < 16) }

@@ -63,6 +63,7 @@ pub fn job_fits(job: Settings) -> bool
 }
 
 // A forward job leaves its strand out.
+#[tactic(auto, using(crate::proofs::Jobs::forward_size, crate::proofs::Jobs::stranded_size))]
 pub fn job_size(job: Settings) -> usize
     ensures { result ≡ length (job_payload job) }
 {
@@ -70,6 +71,7 @@ pub fn job_size(job: Settings) -> usize
 }
 
 // A job's numbers, the strand last.
+#[tactic(auto, unfolding(crate::specs::Kinds::job_numbers, payloads::specs::Numbers::number_bytes))]
 pub fn job_bytes(job: Settings) -> [u8; 8]
     ensures { result ≡ job_numbers job ++ number_bytes 1 job.strand }
 {
@@ -83,6 +85,7 @@ pub fn job_bytes(job: Settings) -> [u8; 8]
 }
 
 // Whether a piece fits a frame: 1 to 128 letters, each by a code that is one.
+#[tactic(auto, unfolding(payloads::specs::Pieces::codes_fit))]
 pub fn piece_fits(codes: &[u8]) -> bool
     ensures { result ≡ codes_fit codes.now }
 {

@@ -55,6 +55,7 @@ impl Values<10> for Entry {
             & (self.weight < 65536)
     }
 
+    #[tactic(auto, unfolding(crate::specs::Kinds::entry_payload, payloads::specs::Numbers::number_bytes))]
     fn payload(self) -> [u8; 10] {
         let mut payload = [0u8; 10];
         payloads::put_number(&mut payload, 0, 2, self.first.start);
@@ -98,6 +99,7 @@ impl Values<20> for Done {
         (self.listed < 4294967296) & (self.matches < 4294967296) & (self.widest < 4294967296)
     }
 
+    #[tactic(auto, unfolding(crate::specs::Kinds::done_payload, payloads::specs::Numbers::number_bytes))]
     fn payload(self) -> [u8; 20] {
         let mut payload = [0u8; 20];
         payloads::put_number(&mut payload, 0, 4, self.listed);
@@ -135,6 +137,7 @@ impl Values<6> for Refused {
         (self.number < 256) & (self.sequence < 256) & (self.detail < 4294967296)
     }
 
+    #[tactic(auto, unfolding(crate::specs::Kinds::refused_payload, payloads::specs::Numbers::number_bytes))]
     fn payload(self) -> [u8; 6] {
         let mut payload = [0u8; 6];
         payloads::put_number(&mut payload, 0, 1, self.number);

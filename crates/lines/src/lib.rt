@@ -35,6 +35,7 @@ pub fn join(high: u8, low: u8) -> u8
 }
 
 // The capital digit of a half.
+#[tactic(auto, using(std::proofs::lemmas::Bool::Decides::nat_tests), unfolding(crate::specs::Digits::digit_of))]
 fn digit(half: u8) -> u8
     requires { half < 16 }
     ensures { result ≡ digit_of half }
@@ -54,6 +55,7 @@ fn sum(bytes: &[u8]) -> u8
 }
 
 // The check byte: it brings the sum of the line's bytes to zero.
+#[tactic(auto, using(crate::proofs::Sums::check_made))]
 fn check(kind: u8, size: u8, payload: &[u8]) -> u8
     ensures { result ≡ check_of (kind ∷ size ∷ payload.now) }
 {
@@ -62,6 +64,7 @@ fn check(kind: u8, size: u8, payload: &[u8]) -> u8
 }
 
 // A byte's two digits, high first, at a place of the slice.
+#[tactic(auto, using(crate::proofs::Storing::byte_stored))]
 fn put_byte(byte: u8, out: &mut [u8], at: usize)
     requires { at + 1 < length out.old }
     ensures { out.new ≡ sets out.old at (digits_of (byte ∷ [])) }
@@ -72,6 +75,7 @@ fn put_byte(byte: u8, out: &mut [u8], at: usize)
 }
 
 // The digits of all bytes, from a place of the slice on.
+#[tactic(auto, using(crate::proofs::Storing::putting_next, crate::proofs::Storing::putting_end))]
 fn put_bytes(bytes: &[u8], out: &mut [u8], at: usize)
     requires { at + 2 * length bytes.now ≤ length out.old }
     ensures { out.new ≡ sets out.old at (digits_of bytes.now) }

@@ -9,6 +9,9 @@ ghost use Rattle.pieces.specs.Taking.{taken_of, piece_taken, piece_left};
 
 use lines::FrameError;
 
+// "26: the sequence would pass 16,384 letters."
+const MOST_LETTERS: usize = 16384;
+
 // Whether a payload is a piece: 1 to 64 bytes, and no half of them 0 but the last.
 fn is_piece(payload: &[u8]) -> bool
     ensures { result ≡ is_piece payload.now }
@@ -29,6 +32,7 @@ fn is_piece(payload: &[u8]) -> bool
 }
 
 // How many codes a piece has: two a byte, or one less.
+#[tactic(auto, using(crate::proofs::Unpacking::count_odd, crate::proofs::Unpacking::count_even))]
 fn code_count(payload: &[u8]) -> usize
     requires in_bounds { 1 ≤ length payload.now }
     requires payload_len_bound { length payload.now ≤ 64 }
@@ -51,10 +55,11 @@ fn put_byte(byte: u8, letters: &mut [u8], at: usize) -> usize
     let halves = lines::split(byte);
     letters[at] = letters::letter(halves.high);
     if halves.low == 0 {
-        return at + 1;
+        at + 1
+    } else {
+        letters[at + 1] = letters::letter(halves.low);
+        at + 2
     }
-    letters[at + 1] = letters::letter(halves.low);
-    at + 2
 }
 
 // The letters of a piece, from a place on.
@@ -80,7 +85,7 @@ pub fn take_piece(payload: &[u8], letters: &mut [u8], count: usize) -> Result<us
         return Err(FrameError::WrongPayload);
     }
     let more = code_count(payload);
-    if count + more <= 16384 {
+    if count + more <= MOST_LETTERS {
         put_letters(payload, letters, count);
         Ok(count + more)
     } else {

@@ -22,6 +22,7 @@ fn read_values<const N: usize, V: Values<N>>(kind: Kind, line: &[u8]) -> Result<
 }
 
 // A forward entry.
+#[tactic(auto, using(crate::proofs::Readers::entry_answer), unfolding(crate::specs::Readers::read_entry))]
 pub fn read_entry(line: &[u8]) -> Result<Entry, FrameError>
     ensures { entry_numbered result ≡ read_entry line.now }
 {
@@ -29,6 +30,7 @@ pub fn read_entry(line: &[u8]) -> Result<Entry, FrameError>
 }
 
 // A reverse entry.
+#[tactic(auto, using(crate::proofs::Readers::entry_answer), unfolding(crate::specs::Readers::read_reverse))]
 pub fn read_reverse_entry(line: &[u8]) -> Result<Entry, FrameError>
     ensures { entry_numbered result ≡ read_reverse line.now }
 {
@@ -36,6 +38,7 @@ pub fn read_reverse_entry(line: &[u8]) -> Result<Entry, FrameError>
 }
 
 // What a job that was done comes to.
+#[tactic(auto, using(crate::proofs::Readers::done_answer))]
 pub fn read_done(line: &[u8]) -> Result<Done, FrameError>
     ensures { done_numbered result ≡ read_done line.now }
 {
@@ -43,6 +46,7 @@ pub fn read_done(line: &[u8]) -> Result<Done, FrameError>
 }
 
 // A refusal.
+#[tactic(auto, using(crate::proofs::Readers::refused_answer))]
 pub fn read_refused(line: &[u8]) -> Result<Refused, FrameError>
     ensures { refused_numbered result ≡ read_refused line.now }
 {

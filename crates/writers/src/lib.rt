@@ -51,6 +51,7 @@ fn write_values<const N: usize, V: Values<N>>(
 }
 
 // A forward entry.
+#[tactic(auto, unfolding(kinds::specs::Kinds::entry_line))]
 pub fn write_entry(entry: Entry, out: &mut [u8]) -> Result<usize, FrameError>
     ensures value { written_of result ≡ written (entry_fits entry) (entry_line entry) out.old }
     ensures out_after { out.new ≡ leaves (entry_fits entry) (entry_line entry) out.old }
@@ -59,6 +60,7 @@ pub fn write_entry(entry: Entry, out: &mut [u8]) -> Result<usize, FrameError>
 }
 
 // A reverse entry.
+#[tactic(auto, unfolding(kinds::specs::Kinds::reverse_line))]
 pub fn write_reverse_entry(entry: Entry, out: &mut [u8]) -> Result<usize, FrameError>
     ensures value { written_of result ≡ written (entry_fits entry) (reverse_line entry) out.old }
     ensures out_after { out.new ≡ leaves (entry_fits entry) (reverse_line entry) out.old }
@@ -67,6 +69,7 @@ pub fn write_reverse_entry(entry: Entry, out: &mut [u8]) -> Result<usize, FrameE
 }
 
 // What a job that was done comes to.
+#[tactic(auto, unfolding(kinds::specs::Kinds::done_line))]
 pub fn write_done(done: Done, out: &mut [u8]) -> Result<usize, FrameError>
     ensures value { written_of result ≡ written (done_fits done) (done_line done) out.old }
     ensures out_after { out.new ≡ leaves (done_fits done) (done_line done) out.old }
@@ -75,6 +78,7 @@ pub fn write_done(done: Done, out: &mut [u8]) -> Result<usize, FrameError>
 }
 
 // A refusal.
+#[tactic(auto, unfolding(kinds::specs::Kinds::refused_line))]
 pub fn write_refused(refused: Refused, out: &mut [u8]) -> Result<usize, FrameError>
     ensures value { written_of result ≡ written (refused_fits refused) (refused_line refused) out.old }
     ensures out_after { out.new ≡ leaves (refused_fits refused) (refused_line refused) out.old }
@@ -83,6 +87,7 @@ pub fn write_refused(refused: Refused, out: &mut [u8]) -> Result<usize, FrameErr
 }
 
 // An end fits wherever its line does.
+#[tactic(auto, unfolding(kinds::specs::Kinds::end_line))]
 pub fn write_end(out: &mut [u8]) -> Result<usize, FrameError>
     ensures value { written_of result ≡ written true end_line out.old }
     ensures out_after { out.new ≡ leaves true end_line out.old }
@@ -105,6 +110,7 @@ fn write_piece_of(kind: Kind, codes: &[u8], out: &mut [u8]) -> Result<usize, Fra
 }
 
 // A piece of the first sequence.
+#[tactic(auto, unfolding(kinds::specs::Kinds::piece_line))]
 pub fn write_first_piece(codes: &[u8], out: &mut [u8]) -> Result<usize, FrameError>
     ensures value { written_of result ≡ written (codes_fit codes.now) (piece_line 1 codes.now) out.old }
     ensures out_after { out.new ≡ leaves (codes_fit codes.now) (piece_line 1 codes.now) out.old }
@@ -113,6 +119,7 @@ pub fn write_first_piece(codes: &[u8], out: &mut [u8]) -> Result<usize, FrameErr
 }
 
 // A piece of the second sequence.
+#[tactic(auto, unfolding(kinds::specs::Kinds::piece_line))]
 pub fn write_second_piece(codes: &[u8], out: &mut [u8]) -> Result<usize, FrameError>
     ensures value { written_of result ≡ written (codes_fit codes.now) (piece_line 2 codes.now) out.old }
     ensures out_after { out.new ≡ leaves (codes_fit codes.now) (piece_line 2 codes.now) out.old }

@@ -8,8 +8,8 @@ pub bounds-letters-at : goal.bounds-letters-at
 bounds-letters-at c =
     omega (arith, c.requires, codes_some c.args.byte)
 
-pub bounds-letters-at-2 : goal.bounds-letters-at-2
-bounds-letters-at-2 c =
+pub bounds-letters-at-else-halves-eq0 : goal.bounds-letters-at-else-halves-eq0
+bounds-letters-at-else-halves-eq0 c =
     simp length-set (omega (arith, c.requires, codes_two c.args.byte _ c.split-halves.ensures.1 c.if-halves-eq0.false))
 
 pub returns-then-halves-eq0 : goal.returns-then-halves-eq0
@@ -17,8 +17,8 @@ returns-then-halves-eq0 c =
     let both = one_letter c.args.letters.now c.args.at c.args.byte _ _ _ c.split-halves.ensures.0 c.split-halves.ensures.1 c.letter.ensures c.if-halves-eq0.true in
     record { value = both.0; letters_after = both.1 }
 
-pub returns : goal.returns
-returns c =
-    let both = two_letters c.args.letters.now c.args.at c.args.byte _ _ _ c.split-halves.ensures.0 c.split-halves.ensures.1 c.letter.ensures _ c.letter-2.ensures
+pub returns-else-halves-eq0 : goal.returns-else-halves-eq0
+returns-else-halves-eq0 c =
+    let both = two_letters c.args.letters.now c.args.at c.args.byte _ _ _ c.split-halves.ensures.0 c.split-halves.ensures.1 c.letter.ensures _ c.letter-else-halves-eq0.ensures
     c.if-halves-eq0.false in
     record { value = both.0; letters_after = both.1 }

@@ -18,17 +18,17 @@ code_count-more-requires c =
 pub put_letters-requires : goal.put_letters-requires
 put_letters-requires c =
     let piece : IsPiece c.args.payload.now = piece_parts _ (sym c.is_piece.ensures ∙ c.if-not-is_piece.false) in
-    record { payload_value = piece.codes; payload_in_bounds = omega (arith, c.if-count-more-le16384.true, c.code_count-more.ensures, c.requires.in_bounds) }
+    record { payload_value = piece.codes; payload_in_bounds = omega (arith, c.if-count-more-le-MOST_LETTERS.true, c.code_count-more.ensures, c.requires.in_bounds) }
 
-pub returns-then-count-more-le16384 : goal.returns-then-count-more-le16384
-returns-then-count-more-le16384 c =
+pub returns-then-count-more-le-MOST_LETTERS : goal.returns-then-count-more-le-MOST_LETTERS
+returns-then-count-more-le-MOST_LETTERS c =
     let both = piece_goes c.args.payload.now c.args.letters.now c.args.count (sym c.is_piece.ensures ∙ c.if-not-is_piece.false) _ c.code_count-more.ensures _
-    c.if-count-more-le16384.true c.put_letters.ensures in
+    c.if-count-more-le-MOST_LETTERS.true c.put_letters.ensures in
     record { value = both.0; letters_after = both.1 }
 
-pub returns-else-count-more-le16384 : goal.returns-else-count-more-le16384
-returns-else-count-more-le16384 c =
-    let both = too_many c.args.payload.now c.args.letters.now c.args.count (sym c.is_piece.ensures ∙ c.if-not-is_piece.false) _ c.code_count-more.ensures c.if-count-more-le16384.false in
+pub returns-else-count-more-le-MOST_LETTERS : goal.returns-else-count-more-le-MOST_LETTERS
+returns-else-count-more-le-MOST_LETTERS c =
+    let both = too_many c.args.payload.now c.args.letters.now c.args.count (sym c.is_piece.ensures ∙ c.if-not-is_piece.false) _ c.code_count-more.ensures c.if-count-more-le-MOST_LETTERS.false in
     record { value = both.0; letters_after = both.1 }
 
 pub returns-then-not-is_piece : goal.returns-then-not-is_piece

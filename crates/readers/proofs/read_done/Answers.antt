@@ -1,7 +1,0 @@
--- The kind is the reader's. Assumes nothing.
-use Rattle.readers.proofs.Readers.{done_answer}
-use Rattle.readers.proofs.read_done.Goals as goal
-
-pub returns : goal.returns
-returns c =
-    done_answer c.args.line.now _ c.read_values.ensures.number c.read_values.ensures.values

@@ -1,8 +1,0 @@
--- The line is that of the kind. Assumes nothing.
-use Rattle.kinds.specs.Kinds.{reverse_line}
-use Rattle.writers.proofs.write_reverse_entry.Goals as goal
-
-pub returns : goal.returns
-unfolding reverse_line
-returns c =
-    record { value = c.write_values.ensures.value; out_after = c.write_values.ensures.out_after }
