@@ -5,6 +5,8 @@
 
 ghost use Rattle.std.specs.Prelude.{◌≡◌, ◌++◌, ◌≤◌, length, drop};
 ghost use Rattle.rules.specs.Places.{places};
+ghost use Rattle.nexts.specs.Nexts.{NextColumns};
+ghost use Rattle.matches.specs.Columns.{FirstColumns};
 ghost use Rattle.mirrored.specs.Mirrored.{row_codes, FirstFits, Columns, BothColumns};
 
 use index::Lookup;
@@ -26,7 +28,20 @@ fn code_rows(c: Settings, first: &[u8], out: &mut [u64; 16384]) -> usize
     rows
 }
 
-// The reverse strand.
+// The forward strand: the codes of both sequences as they stand.
+fn forward(c: Settings, coded: &[u64], lookup: Lookup, firsts: &mut [u32], nexts: &mut [u32])
+    requires k_bound { c.k ≤ 31 }
+    requires few_rows { length coded.now ≤ 16384 }
+    requires firsts_len { length firsts.old ≡ 16384 }
+    requires nexts_len { length nexts.old ≡ 16384 }
+    ensures first_columns { FirstColumns coded.now lookup.entry.codes.now c.a firsts.old firsts.new }
+    ensures next_columns { NextColumns lookup.entry.codes.now nexts.old nexts.new }
+{
+    let low = directory::low_bits(c.k);
+    lookups::find_matches(coded, lookup, low, c.a, firsts, nexts);
+}
+
+// The reverse strand: the first sequence turned instead of the second, and both read from the last place to the first.
 fn reverse(c: Settings, first: &[u8], lookup: Lookup, firsts: &mut [u32], nexts: &mut [u32])
     requires le_k { 1 ≤ c.k }
     requires k_bound { c.k ≤ 31 }
@@ -54,6 +69,7 @@ fn reverse(c: Settings, first: &[u8], lookup: Lookup, firsts: &mut [u32], nexts:
 // The one strand that is named.
 pub fn strand(
     c: Settings,
+    // kept: 0 or 1 as `Settings` has it, which C gives
     strand: u32,
     first: &[u8],
     coded: &[u64],
@@ -68,8 +84,7 @@ pub fn strand(
     ensures { Columns c strand first.now lookup.entry.codes.now firsts.old nexts.old firsts.new nexts.new }
 {
     if strand == 0 {
-        let low = directory::low_bits(c.k);
-        lookups::find_matches(coded, lookup, low, c.a, firsts, nexts);
+        forward(c, coded, lookup, firsts, nexts);
     } else {
         reverse(c, first, lookup, firsts, nexts);
     }
@@ -93,10 +108,10 @@ pub fn both(
     requires reverse_nexts_len { length reverse_nexts.old ≡ 16384 }
     ensures { BothColumns c first.now coded.now lookup.entry.codes.now firsts.old nexts.old reverse_firsts.old reverse_nexts.old firsts.new nexts.new reverse_firsts.new reverse_nexts.new result }
 {
-    strand(c, 0, first, coded, lookup, firsts, nexts);
+    forward(c, coded, lookup, firsts, nexts);
     if c.strand == 0 {
         return 0;
     }
-    strand(c, 1, first, coded, lookup, reverse_firsts, reverse_nexts);
+    reverse(c, first, lookup, reverse_firsts, reverse_nexts);
     coded.len()
 }

@@ -42,9 +42,9 @@ pub fn strand(c: Settings, coded: &[u64], second: &[u8], firsts: &mut [u32], nex
 {
     if c.strand == 0 {
         forward(c, coded, second, firsts, nexts);
-        return;
+    } else {
+        reverse(c, coded, second, firsts, nexts);
     }
-    reverse(c, coded, second, firsts, nexts);
 }
 
 // The strands that the settings of a job name; returns how many rows the reverse strand has to walk, none where it is not asked for.
