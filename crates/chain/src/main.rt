@@ -16,12 +16,12 @@ fn read_full<R: Read>(reader: &mut R, buffer: &mut [u8]) -> io::Result<usize>
     ensures end { IfOk result (λ n. n < length buffer.new → IsAtEnd (R.remaining reader.new)) }
 {
     let mut filled = 0;
+    // kept: no plainer form: a turn goes on by as many bytes as the reader gave, and `read_to_end` needs a heap
     while filled < buffer.len() {
-        let read = reader.read(&mut buffer[filled..])?;
-        if read == 0 {
-            return Ok(filled);
+        match reader.read(&mut buffer[filled..])? {
+            0 => break,
+            read => filled += read,
         }
-        filled += read;
     }
     Ok(filled)
 }

@@ -8,17 +8,15 @@ use borrow.Author.Tests.{lt-ltb, lt-leb, le-leb, eqb-false, eq-eqb, ne_eqb}
 use lib.Dec.{eqb, leb}
 use lib.ListN.{length, get_or, take, drop, length-take, length-append}
 use lib.Seq.{take_at}
-use Rattle.decoding.specs.declared.Frame.{Frame}
 use Rattle.decoding.specs.Digits.{is_line, bytes_in}
 use Rattle.lines.specs.Writing.{byte_sum, in_front}
-use Rattle.decoding.specs.Reading.{refused_frame, frame_from, frame_in}
+use Rattle.decoding.specs.Reading.{Frame, refused_frame, frame_from, frame_in}
 use Rattle.kinds.specs.Kinds.{refused_fits, refused_line}
 use Rattle.payloads.specs.Pieces.{codes_in}
 use Rattle.pieces.specs.Letters.{is_piece, piece_number}
-use Rattle.input.specs.declared.InputRead.{InputRead}
 use Rattle.input.specs.Lines.{add_to, lines_of}
 use Rattle.turns.specs.Turns.{Progress, known_kind, in_turn, frame_number, payload_in, job_size, size_number, payload_number, line_number, after}
-use Rattle.input.specs.Grammar.{Outcome, nothing_yet, refused_input, stopped, finished, read_lines, input_of}
+use Rattle.input.specs.Grammar.{InputRead, Outcome, nothing_yet, refused_input, stopped, finished, read_lines, input_of}
 use Rattle.input.proofs.Cutting.{cut}
 use Rattle.output.specs.Output.{job_output}
 use Rattle.exchange.specs.Whole.{input_refusal, output_of, output_length, output_left}

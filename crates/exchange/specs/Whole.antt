@@ -3,8 +3,7 @@
 use Rattle.std.specs.Prelude.{cond, List, ℕ, eqb, leb, length}
 use Rattle.kinds.specs.declared.Refused.{Refused}
 use Rattle.kinds.specs.Kinds.{refused_line}
-use Rattle.input.specs.declared.InputRead.{InputRead}
-use Rattle.input.specs.Grammar.{input_of}
+use Rattle.input.specs.Grammar.{InputRead, input_of}
 use Rattle.lines.specs.Writing.{in_front}
 use Rattle.output.specs.Output.{job_output}
 

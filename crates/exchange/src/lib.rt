@@ -16,19 +16,20 @@ pub fn answer(input: &[u8], output: &mut [u8]) -> usize
     }
     let mut first = [0u8; 16384];
     let mut second = [0u8; 16384];
-    let read = input::read_input(input, &mut first, &mut second);
-    if read.number != 0 {
-        let refused = Refused {
-            number: read.number,
-            sequence: 0,
-            detail: read.line,
-        };
-        return output::put_refused(refused, output);
+    match input::read_input(input, &mut first, &mut second) {
+        Ok(read) => output::answer_job(
+            read.settings,
+            &first[..read.first],
+            &second[..read.second],
+            output,
+        ),
+        Err(bad) => {
+            let refused = Refused {
+                number: bad.error.number(),
+                sequence: 0,
+                detail: bad.line,
+            };
+            output::put_refused(refused, output)
+        }
     }
-    output::answer_job(
-        read.settings,
-        &first[..read.first],
-        &second[..read.second],
-        output,
-    )
 }
