@@ -22,6 +22,7 @@ fn nibble(digit: u8) -> Option<u8>
     }
 }
 
+// Whether a byte is a capital digit.
 fn is_digit(byte: u8) -> bool
     ensures { result ≡ nat_lt (nibble_of byte) 16 }
 {
@@ -81,6 +82,7 @@ pub struct Frame {
 }
 
 // Reads one line. Its bytes stand in front of the lent ones: kind, length, payload, check.
+// kept: any slice of 67 bytes or more, as docs/MAP.md names this function: a [u8; 67] would ask more of callers.
 pub fn read_line(line: &[u8], bytes: &mut [u8]) -> Result<Frame, FrameError>
     requires { 67 ≤ length bytes.old }
     ensures value { numbered_frame result ≡ frame_in line.now }

@@ -43,7 +43,7 @@ pub fn number_at(bytes: &[u8], at: usize, width: usize) -> u64
     x
 }
 
-// The code at a place of the letters, 0 behind them.
+// The code at a place of the letters, 0 behind them. A piece's odd last letter leaves the low half 0.
 fn code_at(codes: &[u8], i: usize) -> u8
     ensures { result ≡ get_or codes.now i 0 }
 {
@@ -72,6 +72,7 @@ pub fn pack(codes: &[u8], payload: &mut [u8]) -> usize
 }
 
 // Reads a line that is to have a kind and so many bytes of payload.
+// kept: any slice of 67 bytes or more, as docs/MAP.md names this function: a [u8; 67] would ask more of callers.
 pub fn read_kind(line: &[u8], kind: u8, size: usize, bytes: &mut [u8]) -> Result<(), FrameError>
     requires { 67 ≤ length bytes.old }
     ensures value { number_in result ≡ kind_number kind size line.now }
