@@ -10,6 +10,11 @@ use lib.ListN.{get_or, length, set, length-set}
 use Rattle.order.proofs.Cases.{le_or_lt, eq_or_ne, after_set}
 use Rattle.ownership.specs.Owners.{first_in, own_of, FirstAt}
 use Rattle.hashed.specs.Table.{hash_of, Entry, Table, Found}
+use Rattle.hashed.specs.Looked.{looked}
+use Rattle.hashed.specs.declared.LongList.{LongList}
+use Rattle.std.proofs.Common.{Option, Some, None, Result, Ok, Err}
+use Rattle.std.specs.Option.{unwrap_or, option_flatten}
+use Rattle.std.specs.Result.{result_ok}
 use Rattle.ownership.proofs.Hits.{Hit, hit_at, more_found, first_hit, is_first}
 use Rattle.ownership.proofs.Owns.{own_first, is_owner, hit_first}
 
@@ -92,6 +97,12 @@ search_none {second} {c} {n} {limit} {x} nz z s = record { first = λ _. nothing
 -- where the search may look at every column, its answer is the owner
 pub found_owner : {second : List ℕ} {c r : ℕ} → (c ≡ 0 → ⊥) → Found second c (length second) (length second) r → r ≡ own_of second c
 found_owner {second} nz f = f.first (f.sure (omega arith)) ∙ own_first second nz
+
+pub looked_owner : {second : List ℕ} {c : ℕ} (r : Result (Option ℕ) LongList) → (c ≡ 0 → ⊥)
+    → Found second c (length second) (length second) (looked (length second) r) → unwrap_or (option_flatten (result_ok r)) 0 ≡ own_of second c
+looked_owner (Ok (Some x)) nz f = found_owner nz f
+looked_owner (Ok None) nz f = found_owner nz f
+looked_owner (Err e) nz f = absurd (omega (arith, f.sure (omega arith)))
 
 -- ---- building
 

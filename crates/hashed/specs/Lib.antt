@@ -1,2 +1,3 @@
 -- The table, as its functions hand it on.
 pub mod Table
+pub mod Looked

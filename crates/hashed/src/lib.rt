@@ -2,9 +2,12 @@
 // one grows too long.
 #![tactic(auto)]
 
-ghost use Rattle.std.specs.Prelude.{◌≡◌, true, ◌+◌, ◌<◌, ◌≤◌, length};
-ghost use Rattle.ownership.specs.Owners.{own_of, FirstAt, Owned, Kept};
+ghost use Rattle.std.specs.Prelude.{◌≡◌, ◌+◌, ◌<◌, ◌≤◌, length, IfOk, IfSome};
+ghost use Rattle.ownership.specs.Owners.{FirstAt, Owned, Kept};
 ghost use Rattle.hashed.specs.Table.{hash_of, Table, Found};
+ghost use Rattle.hashed.specs.Looked.{looked};
+
+use ownership::Owners;
 
 // Nothing is asked of the hash but that it is a function; how well it spreads is a matter of time alone.
 fn hash(c: u64) -> usize
@@ -14,28 +17,41 @@ fn hash(c: u64) -> usize
     ((m / 131072) % 32768) as usize
 }
 
-// The first column with the code c among the first n, which the table holds, or n + 1 where that would take a look at more than `limit`
-// columns. A list's columns fall, so that n looks are always enough.
-fn find(second: &[u64], bucket: &[u32], link: &[u32], n: usize, c: u64, limit: usize) -> usize
-    requires table { Table second.now bucket.now link.now n }
-    requires c_nonzero { 0 < c }
-    ensures { Found second.now c n limit result }
-{
-    let h = hash(c);
-    let mut x = numbers::wide(bucket[h]);
-    let mut left = limit;
-    while 0 < x {
-        if left == 0 {
-            return n + 1;
+// A list has more columns of one hash than a search may look at.
+#[derive(Clone, Copy, Debug, PartialEq, Eq)]
+pub struct LongList;
+
+// The table of the first n columns.
+#[derive(Clone, Copy)]
+struct Part<'a> {
+    second: &'a [u64],
+    bucket: &'a [u32],
+    link: &'a [u32],
+    n: usize,
+    ghost holds: { Table second.now bucket.now link.now n },
+}
+
+impl<'a> Part<'a> {
+    // The first column with the code c, unless that would take a look at more than `limit` columns. A list's columns fall, so that n looks are always
+    // enough.
+    fn find(&self, c: u64, limit: usize) -> Result<Option<u32>, LongList>
+        requires { 0 < c }
+        ensures found { Found self.now.second.now c self.now.n limit (looked self.now.n result) }
+        ensures column { IfOk result (λ o. IfSome o (λ x. (0 < x) × (x ≤ self.now.n))) }
+    {
+        let mut x = self.bucket[hash(c)];
+        for _look in 0..limit {
+            if x == 0 {
+                return Ok(None);
+            }
+            let p = x as usize - 1;
+            if self.second[p] == c {
+                return Ok(Some(x));
+            }
+            x = self.link[p];
         }
-        left -= 1;
-        let p = x - 1;
-        if second[p] == c {
-            return x;
-        }
-        x = numbers::wide(link[p]);
+        if x == 0 { Ok(None) } else { Err(LongList) }
     }
-    0
 }
 
 // Column n + 1, the first with its code, put in front of its list.
@@ -52,62 +68,69 @@ fn put(second: &[u64], bucket: &mut [u32], link: &mut [u32], n: usize)
     bucket[h] = (n + 1) as u32;
 }
 
-// The table of all columns, and each column's owner in own, at 64 looks a column or fewer; false where that is not enough, as with codes
+// The table of all columns, and each column's owner in own, at 64 looks a column or fewer; a long list where that is not enough, as with codes
 // made to share a hash.
-pub fn build(second: &[u64], bucket: &mut [u32], link: &mut [u32], own: &mut [u32]) -> bool
+pub fn build(
+    second: &[u64],
+    bucket: &mut [u32],
+    link: &mut [u32],
+    own: &mut [u32],
+) -> Result<(), LongList>
     requires second_len_bound { length second.now ≤ 16384 }
     requires second_in_bounds { length second.now ≤ length own.old }
     requires table { Table second.now bucket.old link.old 0 }
-    ensures table_2 { result ≡ true → Table second.now bucket.new link.new (length second.now) }
-    ensures owned { result ≡ true → Owned second.now second.now own.old own.new (length second.now) }
+    ensures table_2 { IfOk result (λ _. Table second.now bucket.new link.new (length second.now)) }
+    ensures owned { IfOk result (λ _. Owned second.now second.now own.old own.new (length second.now)) }
     ensures kept { Kept own.old own.new (length second.now) }
 {
-    let mut j = 0;
-    while j < second.len() {
-        let n = j;
-        let c = second[n];
-        j += 1;
+    for (n, code) in second.iter().enumerate() {
+        let c = *code;
         if 0 < c {
-            let r = find(second, bucket, link, n, c, 64);
-            if n < r {
-                return false;
-            }
-            if r == 0 {
-                put(second, bucket, link, n);
-                own[n] = (n + 1) as u32;
-            } else {
-                own[n] = r as u32;
+            let part = Part {
+                second,
+                bucket,
+                link,
+                n,
+            };
+            match part.find(c, 64)? {
+                Some(r) => own[n] = r,
+                None => {
+                    put(second, bucket, link, n);
+                    own[n] = (n + 1) as u32;
+                }
             }
         } else {
             own[n] = 0;
         }
     }
-    true
+    Ok(())
 }
 
-// The owner of one code, from the table of all columns.
-fn owner_by_table(second: &[u64], bucket: &[u32], link: &[u32], c: u64) -> u32
-    requires second_len_bound { length second.now ≤ 16384 }
-    requires table { Table second.now bucket.now link.now (length second.now) }
-    ensures { result ≡ own_of second.now c }
-{
-    if c == 0 {
-        return 0;
-    }
-    let n = second.len();
-    find(second, bucket, link, n, c, n) as u32
+// The table of all columns. A row is looked up in 65 looks or fewer, since no list that `build` leaves is longer.
+#[derive(Clone, Copy)]
+pub struct Columns<'a> {
+    pub second: &'a [u64],
+    pub bucket: &'a [u32],
+    pub link: &'a [u32],
+    pub ghost few: { length second.now ≤ 16384 },
+    pub ghost whole: { Table second.now bucket.now link.now (length second.now) },
 }
 
-// The owner of each code: 65 looks each or fewer, since no list that `build` leaves is longer.
-pub fn owners_by_table(codes: &[u64], second: &[u64], bucket: &[u32], link: &[u32], own: &mut [u32])
-    requires second_len_bound { length second.now ≤ 16384 }
-    requires codes_in_bounds { length codes.now ≤ length own.old }
-    requires table { Table second.now bucket.now link.now (length second.now) }
-    ensures { Owned second.now codes.now own.old own.new (length codes.now) }
-{
-    let mut i = 0;
-    while i < codes.len() {
-        own[i] = owner_by_table(second, bucket, link, codes[i]);
-        i += 1;
+impl<'a> Owners for Columns<'a> {
+    ghost columns = { λ t. t.second.now };
+
+    fn owner_of(&self, c: u64) -> u32 {
+        if c == 0 {
+            return 0;
+        }
+        let n = self.second.len();
+        let all = Part {
+            second: self.second,
+            bucket: self.bucket,
+            link: self.link,
+            n,
+        };
+        // so many looks are enough
+        all.find(c, n).ok().flatten().unwrap_or(0)
     }
 }

@@ -2,11 +2,18 @@
 -- has it or none has. Assumes nothing.
 use mathlib.Core.Path.{◌≡◌, refl, sym, ap, ◌∙◌}
 use mathlib.Core.List.{List}
+use mathlib.Core.Bool.{Bool, true, false}
 use mathlib.Core.Logic.{⊎_elim}
-use Prim.Native.Nat.{ℕ, ◌+◌, ◌-◌, ◌/◌, ◌<◌, ◌≤◌}
+use Prim.Native.Nat.{ℕ, ◌+◌, ◌<◌, ◌≤◌}
 use native.Mathlib.Omega.{arith}
 use native.Mathlib.Numerals.{add-one}
-use lib.ListN.{get_or, length}
+use lib.Dec.{ltb}
+use lib.ListN.{get_or, length, take}
+use lib.Seq.{get_or-take, length-take-le}
+use borrow.Author.Tests.{lt-ltb, ltb-true, ltb-false}
+use Rattle.std.proofs.lemmas.Grind.{not_there}
+use Rattle.std.proofs.lemmas.List.{get_or_default}
+use Rattle.std.specs.List.Sorted.{IsPartitionedBy, IsPartitionPoint}
 use Rattle.order.specs.Order.{Placed, Ordered}
 use Rattle.order.proofs.Cases.{le_or_lt, eq_or_ne}
 use Rattle.ownership.specs.Owners.{own_of}
@@ -14,61 +21,53 @@ use Rattle.ordered.specs.Lower.{Lower}
 use Rattle.ownership.proofs.Hits.{hit_none, hit_at}
 use Rattle.ownership.proofs.Owns.{is_owner}
 
--- a list just ordered is ready to be searched; what stood there before is forgotten
+-- a list just ordered, cut behind its places, is ready to be searched; what stood there before is forgotten
 pub ordered_ready : {second order₀ order : List ℕ} {m : ℕ} → length second ≤ length order₀ → Ordered second order₀ order m
-    → (m ≤ length order) × Ordered second order order m
-ordered_ready l h = (
-  omega (arith, h.within, h.long),
-  record {
-    within = h.within;
-    long = refl;
-    order = h.order;
-    under = h.under;
-    kmer = h.kmer;
-    all = h.all;
-    others = λ q k. refl;
-  },
-)
+    → Ordered second (take m order) (take m order) (length (take m order))
+ordered_ready {second} {order₀} {order} {m} l h =
+    let long : length (take m order) ≡ m = length-take-le m order (omega (arith, h.within, h.long)) in
+    let at : (q : ℕ) → q < m → get_or (take m order) q 0 ≡ get_or order q 0 = λ q k. get_or-take m order q 0 k in
+    rw long (record {
+      within = h.within;
+      long = refl;
+      order = λ p q k b. rw (at p (omega arith), at q b) (h.order p q k b);
+      under = λ q k. rw (at q k) (h.under q k);
+      kmer = λ q k. rw (at q k) (h.kmer q k);
+      all = λ p k z. let r = h.all p k z in record { place = r.place; below = r.below; holds = at r.place r.below ∙ r.holds };
+      others = λ q k. refl;
+    })
 
--- the middle of what is left
-pub record Middle (lo mid hi : ℕ) : Type 0 where
-  pub from : lo ≤ mid
-  pub below : mid < hi
+-- what holds where a fact is known to be there
+pub by_merely : {P : Type 0} {a b : ℕ} → ∥ P ∥₁ → (P → a ≡ b) → a ≡ b
+by_merely {a = a} {b = b} there f = ⊎_elim (λ (e : a ≡ b). e) (λ (n : a ≡ b → ⊥). absurd (not_there there (λ p. n (f p)))) (eq_or_ne a b)
 
-pub middle : {lo hi : ℕ} → lo < hi → Middle lo (lo + (hi - lo) / 2) hi
-middle h = record { from = omega arith; below = omega arith }
+-- ---- where a code would stand
 
-pub lower_start : {second order : List ℕ} {m c : ℕ} → Lower second order m c 0 m
-lower_start = record { within = omega arith; upto = omega arith; low = λ q h. absurd (omega arith); high = λ q h k. absurd (omega arith) }
+-- the place's code is below c
+abbrev pub is_below : List ℕ → ℕ → ℕ → Bool
+is_below second c p = ltb (get_or second p 0) c
 
-module _ {second order : List ℕ} {m c lo hi mid d : ℕ} (h : Ordered second order order m) (b : Middle lo mid hi)
-    (e : d ≡ get_or second (get_or order mid 0) 0) (w : Lower second order m c lo hi) where
-  pub lower_up : d < c → Lower second order m c (mid + 1) hi
-  lower_up l = record {
+module _ {second order : List ℕ} (c k : ℕ) (h : Ordered second order order (length order)) where
+  parted : IsPartitionedBy (is_below second c) order
+  parted i j d u l e =
+      ⊎_elim
+      (λ (same : i ≡ j). rw same e)
+      (λ (other : i ≡ j → ⊥).
+      let at_i : get_or order i d ≡ get_or order i 0 = get_or_default order i d 0 (omega arith) in
+      let at_j : get_or order j d ≡ get_or order j 0 = get_or_default order j d 0 l in
+      let low : get_or second (get_or order j 0) 0 < c = ltb-true (get_or second (get_or order j 0) 0) c (rw at_j at e) in
+      rw at_i (lt-ltb (get_or second (get_or order i 0) 0) c (omega (arith, (h.order i j (omega arith) l).code))))
+      (eq_or_ne i j)
+
+  pub lower_at : k ≤ length order
+      → (IsPartitionedBy (is_below second c) order → IsPartitionPoint (λ p. is_below second c p ≡ true) (λ p. is_below second c p ≡ false) order k)
+      → Lower second order (length order) c k k
+  lower_at upto point = record {
     within = omega arith;
-    upto = w.upto;
-    low = λ q k.
-        ⊎_elim
-        (λ (z : q ≡ mid). rw z (omega arith))
-        (λ (z : q ≡ mid → ⊥). omega (arith, (h.order q mid (omega arith) (omega arith)).code))
-        (eq_or_ne q mid);
-    high = w.high;
+    upto = upto;
+    low = λ q l. ltb-true (get_or second (get_or order q 0) 0) c ((point parted).0 q 0 (omega arith) l);
+    high = λ q l b. ltb-false (get_or second (get_or order q 0) 0) c ((point parted).1 q 0 l b);
   }
-
-  pub lower_down : c ≤ d → Lower second order m c lo mid
-  lower_down l = record {
-    within = b.from;
-    upto = omega arith;
-    low = w.low;
-    high = λ q k z.
-        ⊎_elim
-        (λ (y : q ≡ mid). rw y (omega arith))
-        (λ (y : q ≡ mid → ⊥). omega (arith, (h.order mid q (omega arith) z).code))
-        (eq_or_ne q mid);
-  }
-
-pub lower_end : {second order : List ℕ} {m c lo hi : ℕ} → hi ≤ lo → Lower second order m c lo hi → Lower second order m c lo lo
-lower_end a w = record { within = omega arith; upto = omega arith; low = w.low; high = λ q k. w.high q (omega arith) }
 
 module _ {second order : List ℕ} {m c k : ℕ} (nz : c ≡ 0 → ⊥) (h : Ordered second order order m) (w : Lower second order m c k k) where
   -- an index that has the code is held, at k or behind

@@ -3,66 +3,39 @@
 
 ghost use Rattle.std.specs.Prelude.{◌≡◌, ◌≤◌, length};
 ghost use Rattle.order.specs.Order.{Ordered};
-ghost use Rattle.ownership.specs.Owners.{own_of, Owned};
-ghost use Rattle.ordered.specs.Lower.{Lower};
+ghost use Rattle.ownership.specs.Owners.{Owned};
 
-// How many of the ordered places have a code below c: log m turns.
-fn lower(second: &[u64], order: &[u32], m: usize, c: u64) -> usize
-    requires m_in_bounds { m ≤ length order.now }
-    requires ordered { Ordered second.now order.now order.now m }
-    ensures { Lower second.now order.now m c result result }
-{
-    let mut lo = 0;
-    let mut hi = m;
-    while lo < hi {
-        let mid = lo + (hi - lo) / 2;
-        let d = order::code_at(second, order[mid]);
-        if d < c {
-            lo = mid + 1;
-        } else {
-            hi = mid;
+use ownership::Owners;
+
+// The places of the columns that have a k-mer, by their codes and then by place.
+#[derive(Clone, Copy)]
+struct Sorted<'a> {
+    second: &'a [u64],
+    order: &'a [u32],
+    ghost few: { length second.now ≤ 16384 },
+    ghost ordered: { ∥ Ordered second.now order.now order.now (length order.now) ∥₁ },
+}
+
+impl<'a> Owners for Sorted<'a> {
+    ghost columns = { λ t. t.second.now };
+
+    // Equal codes are ordered by place, so the first that is not below c is the first column: log m looks.
+    fn owner_of(&self, c: u64) -> u32 {
+        if c == 0 {
+            return 0;
+        }
+        let second = self.second;
+        let k = self
+            .order
+            .partition_point(|p| order::code_at(second, *p) < c);
+        match self.order.get(k) {
+            Some(p) if order::code_at(second, *p) == c => *p + 1,
+            _ => 0,
         }
     }
-    lo
 }
 
-// The owner of one code: equal codes are ordered by place, so the first that is not below c is the first column.
-fn owner_by_order(second: &[u64], order: &[u32], m: usize, c: u64) -> u32
-    requires second_len_bound { length second.now ≤ 16384 }
-    requires m_in_bounds { m ≤ length order.now }
-    requires ordered { Ordered second.now order.now order.now m }
-    ensures { result ≡ own_of second.now c }
-{
-    if c == 0 {
-        return 0;
-    }
-    let k = lower(second, order, m, c);
-    if m <= k {
-        return 0;
-    }
-    let p = order[k];
-    if order::code_at(second, p) == c {
-        return p + 1;
-    }
-    0
-}
-
-// The owner of each code: log m turns each.
-fn owners_by_order(codes: &[u64], second: &[u64], order: &[u32], m: usize, own: &mut [u32])
-    requires second_len_bound { length second.now ≤ 16384 }
-    requires codes_in_bounds { length codes.now ≤ length own.old }
-    requires m_in_bounds { m ≤ length order.now }
-    requires ordered { Ordered second.now order.now order.now m }
-    ensures { Owned second.now codes.now own.old own.new (length codes.now) }
-{
-    let mut i = 0;
-    while i < codes.len() {
-        own[i] = owner_by_order(second, order, m, codes[i]);
-        i += 1;
-    }
-}
-
-// Every column's owner and every row's, by the sort. The local arrays hold places only.
+// Every column's owner and every row's, by the sort. The local array holds places only.
 pub fn own_by_order(first: &[u64], second: &[u64], own: &mut [u32], heads: &mut [u32])
     requires second_len_bound { length second.now ≤ 16384 }
     requires second_in_bounds { length second.now ≤ length own.old }
@@ -72,6 +45,10 @@ pub fn own_by_order(first: &[u64], second: &[u64], own: &mut [u32], heads: &mut 
 {
     let mut order = [0u32; 16384];
     let m = order::sort_places(second, &mut order);
-    owners_by_order(second, second, &order, m, own);
-    owners_by_order(first, second, &order, m, heads);
+    let sorted = Sorted {
+        second,
+        order: &order[..m],
+    };
+    ownership::own_each(&sorted, second, own);
+    ownership::own_each(&sorted, first, heads);
 }

@@ -5,6 +5,8 @@
 ghost use Rattle.std.specs.Prelude.{◌≤◌, length};
 ghost use Rattle.ownership.specs.Owners.{Owned};
 
+use hashed::{Columns, LongList};
+
 // The owner of every column's code in own, and of every row's in heads: at most 64 looks a column to build, 65 a row to look up, or
 // else n log n turns. The local arrays hold places only.
 pub fn own_all(first: &[u64], second: &[u64], own: &mut [u32], heads: &mut [u32])
@@ -16,10 +18,15 @@ pub fn own_all(first: &[u64], second: &[u64], own: &mut [u32], heads: &mut [u32]
 {
     let mut bucket = [0u32; 32768];
     let mut link = [0u32; 16384];
-    let short = hashed::build(second, &mut bucket, &mut link, own);
-    if short {
-        hashed::owners_by_table(first, second, &bucket, &link, heads);
-        return;
+    match hashed::build(second, &mut bucket, &mut link, own) {
+        Ok(()) => {
+            let columns = Columns {
+                second,
+                bucket: &bucket,
+                link: &link,
+            };
+            ownership::own_each(&columns, first, heads);
+        }
+        Err(LongList) => ordered::own_by_order(first, second, own, heads),
     }
-    ordered::own_by_order(first, second, own, heads);
 }

@@ -6,7 +6,7 @@ use lib.ListN.{get_or}
 use Rattle.order.proofs.Cases.{one_list}
 use Rattle.ownership.specs.Owners.{Owned, Kept}
 
--- any two results of `hashed::owners_by_table`, of `ordered::own_by_order`, of `owners::own_all`, of `directory::own_rows` and of `columns::own_columns` are equal
+-- any two results of `ownership::own_each`, of `ordered::own_by_order`, of `owners::own_all`, of `directory::own_rows` and of `columns::own_columns` are equal
 pub owned_one : {second codes own₀ x y : List ℕ} {n : ℕ} → Owned second codes own₀ x n → Owned second codes own₀ y n → x ≡ y
 owned_one {n = n} a b =
     one_list n a.long b.long (λ p l. a.owners p l ∙ sym (b.owners p l)) (λ p l. a.others p l ∙ sym (b.others p l))

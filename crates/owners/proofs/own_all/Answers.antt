@@ -5,6 +5,6 @@ use Rattle.order.proofs.Cases.{zero_at}
 use Rattle.hashed.proofs.Tables.{table_start}
 use Rattle.owners.proofs.own_all.Goals as goal
 
-pub build-short-requires-clause-table : goal.build-short-requires-clause-table
-build-short-requires-clause-table c =
+pub build-requires-clause-table : goal.build-requires-clause-table
+build-requires-clause-table c =
     table_start (length-replicate {A = ℕ} 32768 0) (omega (arith, length-replicate {A = ℕ} 16384 0)) (zero_at 32768)
