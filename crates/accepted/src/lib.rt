@@ -5,10 +5,12 @@
 ghost use Rattle.std.specs.Prelude.{◌≡◌, []};
 ghost use Rattle.rules.specs.Letters.{as_read};
 ghost use Rattle.rules.specs.Answers.{left};
+ghost use Rattle.answers.specs.Outcomes.{answer_of};
 ghost use Rattle.walks.specs.Matched.{Fits};
 ghost use Rattle.accepted.specs.Coded.{compared_coded, stopped_coded, needed_coded};
 
-use rules::{Answer, Settings};
+use answers::{Refusal, Tallies};
+use rules::Settings;
 
 // Lists what is shared on the strands that are named.
 pub fn compare_coded(
@@ -17,9 +19,9 @@ pub fn compare_coded(
     second: &[u8],
     work: &mut [u32],
     list: &mut [u32],
-) -> Answer
+) -> Result<Tallies, Refusal>
     requires { Fits c coded.now second.now }
-    ensures { left result work.new list.new ≡ compared_coded c coded.now (as_read c.mask second.now) work.old list.old }
+    ensures { left (answer_of result) work.new list.new ≡ compared_coded c coded.now (as_read c.mask second.now) work.old list.old }
 {
     let rows = coded.len();
     // columns of rows and of columns on each strand: places, and no records
@@ -49,16 +51,22 @@ pub fn compare_coded(
 }
 
 // Leaves the run of a row of the one strand that is named.
-pub fn stop_coded(c: Settings, coded: &[u64], second: &[u8], work: &mut [u32], row: u32) -> Answer
+pub fn stop_coded(
+    c: Settings,
+    coded: &[u64],
+    second: &[u8],
+    work: &mut [u32],
+    row: u32,
+) -> Result<Tallies, Refusal>
     requires { Fits c coded.now second.now }
-    ensures { left result work.new [] ≡ stopped_coded c coded.now (as_read c.mask second.now) work.old row }
+    ensures { left (answer_of result) work.new [] ≡ stopped_coded c coded.now (as_read c.mask second.now) work.old row }
 {
     let rows = coded.len();
     // as above
     let mut firsts = [0u32; 16384];
     let mut nexts = [0u32; 16384];
     walks::strand(c, coded, second, &mut firsts, &mut nexts);
-    stopping::stop_matches(&firsts[..rows], &nexts, c, work, numbers::wide(row))
+    stopping::stop_matches(&firsts[..rows], &nexts, c, work, row as usize)
 }
 
 // Tells how many records of work room the strands that are named need.
@@ -86,7 +94,7 @@ pub fn need_coded(c: Settings, coded: &[u64], second: &[u8]) -> usize
         &nexts,
         &reverse_firsts[..reverse_rows],
         &reverse_nexts,
-        numbers::wide(c.b),
+        c.b as usize,
     );
     counts.widest
 }

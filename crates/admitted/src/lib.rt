@@ -5,13 +5,15 @@
 ghost use Rattle.std.specs.Prelude.{◌≡◌, []};
 ghost use Rattle.rules.specs.Letters.{as_read};
 ghost use Rattle.rules.specs.Answers.{left};
+ghost use Rattle.answers.specs.Outcomes.{answer_of};
 ghost use Rattle.requests.specs.Index.{codes_of};
 ghost use Rattle.walks.specs.Matched.{Fits};
 ghost use Rattle.mirrored.specs.Mirrored.{FirstFits};
 ghost use Rattle.accepted.specs.Coded.{compared_coded, stopped_coded};
 
+use answers::{Refusal, Tallies};
 use index::Lookup;
-use rules::{Answer, Settings};
+use rules::Settings;
 
 // Lists what is shared on the strands that are named.
 pub fn compare_indexed(
@@ -22,11 +24,11 @@ pub fn compare_indexed(
     lookup: Lookup,
     work: &mut [u32],
     list: &mut [u32],
-) -> Answer
+) -> Result<Tallies, Refusal>
     requires fits { Fits c coded.now second.now }
     requires fits_first { FirstFits c first.now coded.now }
     requires codes_value { lookup.codes.now ≡ codes_of c.k c.mask second.now }
-    ensures { left result work.new list.new ≡ compared_coded c coded.now (as_read c.mask second.now) work.old list.old }
+    ensures { left (answer_of result) work.new list.new ≡ compared_coded c coded.now (as_read c.mask second.now) work.old list.old }
 {
     let rows = coded.len();
     // columns of rows and of columns on each strand: places, and no records
@@ -65,16 +67,16 @@ pub fn stop_indexed(
     lookup: Lookup,
     work: &mut [u32],
     row: u32,
-) -> Answer
+) -> Result<Tallies, Refusal>
     requires fits { Fits c coded.now second.now }
     requires fits_first { FirstFits c first.now coded.now }
     requires codes_value { lookup.codes.now ≡ codes_of c.k c.mask second.now }
-    ensures { left result work.new [] ≡ stopped_coded c coded.now (as_read c.mask second.now) work.old row }
+    ensures { left (answer_of result) work.new [] ≡ stopped_coded c coded.now (as_read c.mask second.now) work.old row }
 {
     let rows = coded.len();
     // as above
     let mut firsts = [0u32; 16384];
     let mut nexts = [0u32; 16384];
     mirrored::strand(c, c.strand, first, coded, lookup, &mut firsts, &mut nexts);
-    stopping::stop_matches(&firsts[..rows], &nexts, c, work, numbers::wide(row))
+    stopping::stop_matches(&firsts[..rows], &nexts, c, work, row as usize)
 }

@@ -1,3 +1,4 @@
 pub mod Sorting
 pub mod Checking
 pub mod Endings
+pub mod Unique

@@ -3,9 +3,26 @@
 #![tactic(auto)]
 
 ghost use Rattle.std.specs.Prelude.{◌≡◌, []};
-ghost use Rattle.rules.specs.Answers.{left, compared, stopped as stopped_by, replied};
+ghost use Rattle.rules.specs.Answers.{left, checked, compared, stopped as stopped_by, replied};
+ghost use Rattle.answers.specs.Outcomes.{answer_of, check_of, reply_of};
+ghost use Rattle.compare.specs.Ready.{FirstCoded};
 
-use rules::{Answer, Settings};
+use answers::{Refusal, Tallies};
+use rules::Settings;
+
+// Checks 1 to 6, with 9 and 10 after 4, and the codes of the first sequence in a lent array.
+pub fn code_first<'a>(
+    settings: Settings,
+    first: &[u8],
+    second: &[u8],
+    codes: &'a mut [u64; 16384],
+) -> Result<&'a [u64], Refusal>
+    ensures { FirstCoded settings first.now second.now result }
+{
+    refusals::check(settings, first, second)?;
+    let rows = kmers::code_all(first, settings.k, settings.mask, codes);
+    Ok(&codes[..rows])
+}
 
 // Lists the intervals that two sequences share, on the forward strand or on both. Checks 1 to 8, with 9 and 10 after 4: the
 // first that applies.
@@ -15,17 +32,13 @@ pub fn compare(
     second: &[u8],
     work: &mut [u32],
     list: &mut [u32],
-) -> Answer
-    ensures { left result work.new list.new ≡ compared settings first.now second.now work.old list.old }
+) -> Result<Tallies, Refusal>
+    ensures { left (answer_of result) work.new list.new ≡ compared settings first.now second.now work.old list.old }
 {
-    let refused = refusals::check(settings, first, second);
-    if refused.number != 0 {
-        return refused;
-    }
     // codes, and no records
     let mut codes = [0u64; 16384];
-    let rows = kmers::code_all(first, settings.k, settings.mask, &mut codes);
-    accepted::compare_coded(settings, &codes[..rows], second, work, list)
+    let coded = code_first(settings, first, second, &mut codes)?;
+    accepted::compare_coded(settings, coded, second, work, list)
 }
 
 // Sweeps one strand up to a row and leaves the run of that row in work room. Checks 1 to 7, with 9 and 10 after 4, then 19; m is checked and not
@@ -36,30 +49,32 @@ pub fn stopped(
     second: &[u8],
     work: &mut [u32],
     row: u32,
-) -> Answer
-    ensures { left result work.new [] ≡ stopped_by settings first.now second.now work.old row }
+) -> Result<Tallies, Refusal>
+    ensures { left (answer_of result) work.new [] ≡ stopped_by settings first.now second.now work.old row }
 {
-    let refusal = refusals::check(settings, first, second);
-    if refusal.number != 0 {
-        return refusal;
-    }
     // as above
     let mut codes = [0u64; 16384];
-    let rows = kmers::code_all(first, settings.k, settings.mask, &mut codes);
-    accepted::stop_coded(settings, &codes[..rows], second, work, row)
+    let coded = code_first(settings, first, second, &mut codes)?;
+    accepted::stop_coded(settings, coded, second, work, row)
 }
 
-// How many records of work room a job needs: W, the larger of both strands, or 4,294,967,296 plus the refusal number 1 to 6, 9 or 10.
-pub fn need(settings: Settings, first: &[u8], second: &[u8]) -> u64
-    ensures { result ≡ replied settings first.now second.now }
+// How many records of work room a job needs: W, the larger of both strands. Checks 1 to 6, with 9 and 10 after 4.
+pub fn need(settings: Settings, first: &[u8], second: &[u8]) -> Result<usize, Refusal>
+    ensures checks { check_of result ≡ checked settings first.now second.now }
+    ensures value { reply_of result ≡ replied settings first.now second.now }
 {
-    let refused = refusals::check(settings, first, second);
-    let number = refused.number;
-    if number != 0 {
-        return 4294967296 + number;
-    }
     // as above
     let mut codes = [0u64; 16384];
-    let rows = kmers::code_all(first, settings.k, settings.mask, &mut codes);
-    accepted::need_coded(settings, &codes[..rows], second) as u64
+    let coded = code_first(settings, first, second, &mut codes)?;
+    Ok(accepted::need_coded(settings, coded, second))
+}
+
+// The reply over the C boundary: the records that are needed, or 4,294,967,296 plus the refusal's number.
+pub fn reply(needed: Result<usize, Refusal>) -> u64
+    ensures { result ≡ reply_of needed }
+{
+    match needed {
+        Ok(records) => records as u64,
+        Err(refusal) => 4294967296 + refusal.numbers().0,
+    }
 }

@@ -7,8 +7,10 @@ ghost use Rattle.rules.specs.Entered.{settings};
 ghost use Rattle.rules.specs.Answers.{compared, stopped as stopped_by, replied};
 ghost use Rattle.requests.specs.Index.{built_index, compared_over, stopped_over};
 ghost use Rattle.answers.specs.Numbers.{answer_numbers};
+ghost use Rattle.answers.specs.Outcomes.{answer_of, built_of};
 ghost use Rattle.frames.specs.Frames.{frame_reply, frame_left, read_frame};
 
+use answers::{Refusal, Tallies};
 use rules::Settings;
 
 // The settings of a job by their numbers.
@@ -25,6 +27,18 @@ fn entered(k: u32, b: u32, a: u32, m: u32, strand: u32, mask: u32) -> Settings
     }
 }
 
+// An index that is built, as what is done: its places stand where a job has its entries.
+fn listed(built: Result<usize, Refusal>) -> Result<Tallies, Refusal>
+    ensures { answer_of result ≡ built_of built }
+{
+    built.map(|places| Tallies {
+        listed: places,
+        matches: 0,
+        widest: 0,
+        links: 0,
+    })
+}
+
 // How many records of work room are needed: W, the larger of both strands, or 4,294,967,296 plus the refusal number 1 to 6, 9 or 10.
 #[unsafe(no_mangle)]
 pub extern "C" fn hornbeamlet_need(
@@ -39,7 +53,7 @@ pub extern "C" fn hornbeamlet_need(
 ) -> u64
     ensures { result ≡ replied (settings k b a m strand mask) first.now second.now }
 {
-    compare::need(entered(k, b, a, m, strand, mask), first, second)
+    compare::reply(compare::need(entered(k, b, a, m, strand, mask), first, second))
 }
 
 // The compare job.
@@ -59,8 +73,9 @@ pub extern "C" fn hornbeamlet_compare(
 )
     ensures { let o = compared (settings k b a m strand mask) first.now second.now work.old list.old in (answer.new ≡ answer_numbers o.answer) × (work.new ≡ o.work) × (list.new ≡ o.list) }
 {
-    let x = compare::compare(entered(k, b, a, m, strand, mask), first, second, work, list);
-    answers::put_answer(answer, x);
+    let c = entered(k, b, a, m, strand, mask);
+    let x = compare::compare(c, first, second, work, list);
+    answers::put_answer(answer, answers::answer(x));
 }
 
 // The stopped sweep.
@@ -80,8 +95,9 @@ pub extern "C" fn hornbeamlet_stopped(
 )
     ensures { let o = stopped_by (settings k b a m strand mask) first.now second.now work.old row in (answer.new ≡ answer_numbers o.answer) × (work.new ≡ o.work) }
 {
-    let x = compare::stopped(entered(k, b, a, m, strand, mask), first, second, work, row);
-    answers::put_answer(answer, x);
+    let c = entered(k, b, a, m, strand, mask);
+    let x = compare::stopped(c, first, second, work, row);
+    answers::put_answer(answer, answers::answer(x));
 }
 
 // Builds the index of a second sequence. Done, the number of places in it stands where a job has its entries.
@@ -95,8 +111,8 @@ pub extern "C" fn hornbeamlet_index(
 )
     ensures { let o = built_index k mask second.now index.old in (answer.new ≡ answer_numbers o.answer) × (index.new ≡ o.index) }
 {
-    let x = building::build_index(k, mask, second, index);
-    answers::put_answer(answer, x);
+    let x = listed(building::build_index(k, mask, second, index));
+    answers::put_answer(answer, answers::answer(x));
 }
 
 // The compare job over an index, which is only read.
@@ -119,7 +135,7 @@ pub extern "C" fn hornbeamlet_compare_indexed(
 {
     let c = entered(k, b, a, m, strand, mask);
     let x = indexed::compare_over(c, first, second, index, work, list);
-    answers::put_answer(answer, x);
+    answers::put_answer(answer, answers::answer(x));
 }
 
 // The stopped sweep over an index.
@@ -142,7 +158,7 @@ pub extern "C" fn hornbeamlet_stopped_indexed(
 {
     let c = entered(k, b, a, m, strand, mask);
     let x = indexed::stopped_over(c, first, second, index, work, row);
-    answers::put_answer(answer, x);
+    answers::put_answer(answer, answers::answer(x));
 }
 
 // Writes a frame: the length of its line, or 4,294,967,296 plus 27.

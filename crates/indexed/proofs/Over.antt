@@ -1,127 +1,98 @@
--- The entry points over an index: a refused job ends with its rooms untouched, a wrong slice too, and any other job is the plain one. Assumes nothing.
-use mathlib.Core.Path.{◌≡◌, refl, sym, ap, subst, subst⁻¹, ◌∙◌}
-use mathlib.Core.Bool.{true}
-use mathlib.Core.List.{List, [], ◌++◌}
-use Prim.Native.Nat.{ℕ, ◌≤◌}
-use native.Mathlib.Omega.{arith}
-use lib.Dec.{T}
-use lib.ListN.{length, take, replicate, length-replicate}
+-- The entry points over an index: refused by the checks or for the slice, with the rooms as they were, or the plain job. Assumes nothing.
+use Rattle.std.proofs.Common.{◌≡◌, ℕ, ◌≤◌, List, [], ◌++◌, length, take, T, Option, Some, None, Result, refl, sym, ap, subst, ◌∙◌, arith}
+use mathlib.Core.Path.{subst⁻¹}
+use Rattle.std.specs.Bool.{then_some}
+use Rattle.std.specs.Result.{IsErrAnd}
 use Rattle.rules.specs.declared.Settings.{Settings}
-use Rattle.rules.specs.declared.Answer.{Answer}
 use Rattle.rules.specs.Letters.{as_read}
 use Rattle.rules.specs.Places.{places}
 use Rattle.rules.specs.Codes.{codes}
-use Rattle.rules.specs.Answers.{Outcome, left, refusal, checked, compared, stopped}
+use Rattle.rules.specs.Answers.{Outcome, left, checked, compared, stopped}
 use Rattle.rules.proofs.Outcomes.{left_path}
 use Rattle.requests.specs.Index.{index_of_codes, kmer_places, codes_of, index_of, begins_with, indexed, swept_over, compared_over, stopped_over}
 use Rattle.requests.proofs.OverIndex.{over_refused, over_12, over_plain}
-use Rattle.kmers.proofs.Codes.{Front, coded_front, places_few}
-use Rattle.refusals.proofs.Checking.{number_passes, number_refuses, accepted}
-use Rattle.std.proofs.Common.{Option, Some, None}
-use Rattle.std.specs.Bool.{then_some}
+use Rattle.answers.specs.declared.Tallies.{Tallies}
+use Rattle.answers.specs.declared.refusal.Refusal.{Refusal}
+use Rattle.answers.specs.declared.refusal.Refusal.TheVariants.{WrongIndex}
+use Rattle.answers.specs.Outcomes.{refusal_of, answer_of}
+use Rattle.answers.proofs.Exits.{answer_exit}
+use Rattle.refusals.proofs.Checking.{accepted}
+use Rattle.kmers.proofs.Codes.{coded_front, places_few}
 use Rattle.index.specs.Keys.{Keyed, Indexed, numbers_read}
-use Rattle.index.proofs.Passes.{held_indexed, held_some, held_none}
+use Rattle.index.proofs.Passes.{held_some, held_none, held_indexed}
 use Rattle.mirrored.specs.Mirrored.{FirstFits}
-use Rattle.compare.proofs.Entries.{Coded, refuses, refuses_stop}
+use Rattle.compare.specs.Ready.{Ready}
+use Rattle.compare.proofs.Entries.{not_passed, refuses, refuses_stop, number_passed}
+use Rattle.indexed.specs.Found.{Found, Wrong}
 
--- a call that returns what the checks gave
-module _ (c : Settings) (s t index : List ℕ) {r : Answer} (e : r ≡ checked c s t) (h : r.number ≡ 0 → ⊥) where
-  pub refuses_over : (work list : List ℕ) → left r work list ≡ compared_over c s t index work list
-  unfolding compared_over
-  refuses_over work list = refuses c s t e h work list ∙ sym (over_refused c s t index work list (compared c s t work list) (number_refuses e h))
+module _ (c : Settings) (s t index : List ℕ) where
+  module _ (e : Refusal) (r : Result Tallies Refusal) (exit : IsErrAnd r (λ d. d ≡ e)) where
+    -- a call that hands on what the checks refused
+    module _ (because : refusal_of e ≡ checked c s t) where
+      pub refuses_over : (work list : List ℕ) → left (answer_of r) work list ≡ compared_over c s t index work list
+      unfolding compared_over
+      refuses_over work list = refuses c s t e because r exit work list ∙ sym (over_refused c s t index work list (compared c s t work list) (not_passed c s t e because))
 
-  pub refuses_stop_over : (work : List ℕ) (row : ℕ) → left r work [] ≡ stopped_over c s t index work row
-  unfolding stopped_over
-  refuses_stop_over work row = refuses_stop c s t e h work row ∙ sym (over_refused c s t index work [] (stopped c s t work row) (number_refuses e h))
+      pub refuses_stop_over : (work : List ℕ) (row : ℕ) → left (answer_of r) work [] ≡ stopped_over c s t index work row
+      unfolding stopped_over
+      refuses_stop_over work row =
+          refuses_stop c s t e because r exit work row ∙ sym (over_refused c s t index work [] (stopped c s t work row) (not_passed c s t e because))
 
--- a slice held against the codes of an accepted job's second sequence
-pub record Read (c : Settings) (s t index out keys₀ keys : List ℕ) (columns : ℕ) (r : Option ℕ) : Type 0 where
-  pub passed : (checked c s t).number ≡ 0
-  pub codes_in : Front (codes c.k (as_read c.mask t)) out columns
-  pub columns_few : columns ≤ 16384
-  pub room : length keys₀ ≡ 16384
-  pub found : r ≡ then_some (begins_with (index_of_codes (take columns out)) index) (kmer_places (take columns out))
-  pub keyed : Keyed (take columns out) index keys₀ keys (numbers_read (kmer_places (take columns out)) index)
+    -- and one that hands on that the slice is wrong
+    module _ {coded : List ℕ} (y : Ready c s t coded) (w : Wrong c t index e) where
+      wrong : (work list : List ℕ) (plain : Outcome) → left (answer_of r) work list ≡ swept_over c s t index work list plain
+      wrong work list plain =
+          left_path (answer_exit e r exit (ap refusal_of w.because)) refl refl ∙ sym (over_12 c s t index work list plain (number_passed c s t y) w.wrong)
 
--- what the call of the checks gave refuses nothing
-module _ {c : Settings} {s t : List ℕ} {r : Answer} (e : r ≡ checked c s t) (z : r.number ≡ 0) where
-  -- then the slice is read: `index::check` held it against the codes that `kmers::code_all` made of the second sequence
-  pub read_of : (rest : List ℕ) {index out keys : List ℕ} {columns : ℕ} {held : Option ℕ} → columns ≡ places c.k t
-      → out ≡ codes c.k (as_read c.mask t) ++ rest
-      → held ≡ then_some (begins_with (index_of_codes (take columns out)) index) (kmer_places (take columns out))
-      → Keyed (take columns out) index (replicate 16384 0) keys (numbers_read (kmer_places (take columns out)) index)
-      → Read c s t index out (replicate 16384 0) keys columns held
-  read_of rest n d found keyed =
-      let passed = number_passes e z in
-      let ok = accepted c s t passed in
-      record {
-        passed = passed;
-        codes_in = coded_front _ _ _ rest n d;
-        columns_few = omega (arith, n, places_few c.k t ok.some_base ok.short_second);
-        room = length-replicate {A = ℕ} 16384 0;
-        found = found;
-        keyed = keyed;
-      }
+      pub wrong_compare : (work list : List ℕ) → left (answer_of r) work list ≡ compared_over c s t index work list
+      unfolding compared_over
+      wrong_compare work list = wrong work list (compared c s t work list)
 
-  -- and the job ready, once `kmers::code_all` made the codes of the first
-  pub coded_of : (rest : List ℕ) {out : List ℕ} {rows : ℕ} → rows ≡ places c.k s → out ≡ codes c.k (as_read c.mask s) ++ rest → Coded c s t out rows
-  coded_of rest n d = record { passed = number_passes e z; rows_are = n; codes_in = coded_front _ _ _ rest n d }
-
-module _ (c : Settings) (s t index : List ℕ) {out keys₀ keys : List ℕ} {columns : ℕ} {held : Option ℕ} (y : Read c s t index out keys₀ keys columns held) where
-  abbrev cols : List ℕ
-  cols = take columns out
-
-  begins_is : begins_with (index_of_codes cols) index ≡ indexed c t index
-  unfolding indexed index_of codes_of
-  begins_is = ap (λ (l : List ℕ). begins_with (index_of_codes l) index) y.codes_in.front
-
-  -- it is wrong
-  module _ (n : held ≡ None) {r : Answer} (e : r ≡ refusal 12 0 0) where
-    wrong : (work list : List ℕ) (plain : Outcome) → left r work list ≡ swept_over c s t index work list plain
-    wrong work list plain =
-        left_path e refl refl
-        ∙ sym (over_12 c s t index work list plain y.passed (λ u. subst T (sym begins_is ∙ held_none _ _ y.found n) u))
-
-    pub wrong_compare : (work list : List ℕ) → left r work list ≡ compared_over c s t index work list
-    unfolding compared_over
-    wrong_compare work list = wrong work list (compared c s t work list)
-
-    pub wrong_stop : (work : List ℕ) (row : ℕ) → left r work [] ≡ stopped_over c s t index work row
-    unfolding stopped_over
-    wrong_stop work row = wrong work [] (stopped c s t work row)
+      pub wrong_stop : (work : List ℕ) (row : ℕ) → left (answer_of r) work [] ≡ stopped_over c s t index work row
+      unfolding stopped_over
+      wrong_stop work row = wrong work [] (stopped c s t work row)
 
   -- it is right
-  module _ {n : ℕ} (b : held ≡ Some n) where
-    begins : begins_with (index_of_codes cols) index ≡ true
-    begins = (held_some _ _ y.found b).0
-
-    right : (work list : List ℕ) (plain : Outcome) {o : Outcome} → o ≡ plain → o ≡ swept_over c s t index work list plain
-    right work list plain e = e ∙ sym (over_plain c s t index work list plain (subst⁻¹ T (sym begins_is ∙ begins) tt))
-
+  module _ {codes : List ℕ} (f : Found c t index codes) where
     pub right_compare : (work list : List ℕ) {o : Outcome} → o ≡ compared c s t work list → o ≡ compared_over c s t index work list
     unfolding compared_over
-    right_compare work list e = right work list (compared c s t work list) e
+    right_compare work list e = e ∙ sym (over_plain c s t index work list (compared c s t work list) f.right)
 
     pub right_stop : (work : List ℕ) (row : ℕ) {o : Outcome} → o ≡ stopped c s t work row → o ≡ stopped_over c s t index work row
     unfolding stopped_over
-    right_stop work row e = right work [] (stopped c s t work row) e
+    right_stop work row e = e ∙ sym (over_plain c s t index work [] (stopped c s t work row) f.right)
 
-    -- what `index::Lookup` asks for
-    pub few_over : length cols ≤ 16384
-    few_over = omega (arith, y.codes_in.long, y.columns_few)
-
-    pub counted_over : n ≡ kmer_places cols
-    counted_over = (held_some _ _ y.found b).1
-
-    pub indexed_over : Indexed cols index keys
-    indexed_over = held_indexed (subst⁻¹ T begins tt) (omega (arith, few_over, y.room)) y.keyed
-
-  pub fits_over : {coded : List ℕ} {rows : ℕ} → Coded c s t coded rows → FirstFits c s (take rows coded)
+module _ (c : Settings) (s t : List ℕ) {coded : List ℕ} (y : Ready c s t coded) where
+  pub fits_first : FirstFits c s coded
   unfolding codes_of
-  fits_over z =
-      let ok = accepted c s t y.passed in
-      record { some_base = ok.some_base; few_bases = ok.few_bases; short_first = ok.short_first; coded_are = z.codes_in.front }
+  fits_first =
+      let ok = accepted c s t (number_passed c s t y) in
+      record { some_base = ok.some_base; few_bases = ok.few_bases; short_first = ok.short_first; coded_are = y.coded_are }
 
-  pub columns_coded : cols ≡ codes_of c.k c.mask t
+-- a slice held against the codes of a second sequence, which stand in front of an array
+module _ (c : Settings) (t index rest : List ℕ) {out : List ℕ} {columns : ℕ} (n : columns ≡ places c.k t) (d : out ≡ codes c.k (as_read c.mask t) ++ rest)
+    {held : Option ℕ} (v : held ≡ then_some (begins_with (index_of_codes (take columns out)) index) (kmer_places (take columns out))) where
+  codes_are : take columns out ≡ codes_of c.k c.mask t
   unfolding codes_of
-  columns_coded = y.codes_in.front
+  codes_are = (coded_front _ _ _ rest n d).front
+
+  begins_is : begins_with (index_of_codes (take columns out)) index ≡ indexed c t index
+  unfolding indexed index_of
+  begins_is = ap (λ (l : List ℕ). begins_with (index_of_codes l) index) codes_are
+
+  pub few_codes : 1 ≤ c.k → length t ≤ 16384 → length (take columns out) ≤ 16384
+  few_codes k l = omega (arith, (coded_front _ _ _ rest n d).long, n, places_few c.k t k l)
+
+  pub is_wrong : held ≡ None → Wrong c t index WrongIndex
+  is_wrong e = record { wrong = λ u. subst T (sym begins_is ∙ held_none _ _ v e) u; because = refl }
+
+  module _ {places : ℕ} (e : held ≡ Some places) where
+    pub is_right : Found c t index (take columns out)
+    is_right = record { right = subst⁻¹ T (sym begins_is ∙ (held_some _ _ v e).0) tt; codes_are = codes_are }
+
+    pub is_counted : places ≡ kmer_places (take columns out)
+    is_counted = (held_some _ _ v e).1
+
+    pub is_indexed : {keys₀ keys : List ℕ} → length (take columns out) ≤ length keys₀
+        → Keyed (take columns out) index keys₀ keys (numbers_read (kmer_places (take columns out)) index) → Indexed (take columns out) index keys
+    is_indexed room keyed = held_indexed (subst⁻¹ T (held_some _ _ v e).0 tt) room keyed

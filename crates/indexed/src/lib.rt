@@ -2,12 +2,41 @@
 // and room gets an answer, and every number of the rooms is stated; the slice is only read.
 #![tactic(auto)]
 
-ghost use Rattle.std.specs.Prelude.{◌≡◌, []};
+ghost use Rattle.std.specs.Prelude.{◌≡◌, [], ◌≤◌, length, MatchResult};
 ghost use Rattle.rules.specs.Answers.{left};
 ghost use Rattle.requests.specs.Index.{compared_over, stopped_over};
+ghost use Rattle.answers.specs.Outcomes.{answer_of};
+ghost use Rattle.indexed.specs.Found.{Found, Wrong};
 
+use answers::{Refusal, Tallies};
 use index::Lookup;
-use rules::{Answer, Settings};
+use rules::Settings;
+
+// The codes of the second sequence, in a lent array, and the slice that begins with their index, its keys in another: 12 where it does not.
+fn look_up<'a>(
+    settings: Settings,
+    second: &[u8],
+    index: &'a [u32],
+    codes: &'a mut [u64; 16384],
+    keys: &'a mut [u64; 16384],
+) -> Result<Lookup<'a>, Refusal>
+    requires le_k { 1 ≤ settings.k }
+    requires k_bound { settings.k ≤ 31 }
+    requires second_len_bound { length second.now ≤ 16384 }
+    ensures { MatchResult result (λ lookup. Found settings second.now index.now lookup.codes.now) (Wrong settings second.now index.now) }
+{
+    let columns = kmers::code_all(second, settings.k, settings.mask, codes);
+    let codes = &codes[..columns];
+    let Some(places) = index::check(codes, index, keys) else {
+        return Err(Refusal::WrongIndex);
+    };
+    Ok(Lookup {
+        codes,
+        index,
+        keys,
+        places,
+    })
+}
 
 // The compare job. Checks 1 to 6, with 9 and 10 after 4, then 12, 7 and 8: the first that applies.
 pub fn compare_over(
@@ -17,29 +46,16 @@ pub fn compare_over(
     index: &[u32],
     work: &mut [u32],
     list: &mut [u32],
-) -> Answer
-    ensures { left result work.new list.new ≡ compared_over settings first.now second.now index.now work.old list.old }
+) -> Result<Tallies, Refusal>
+    ensures { left (answer_of result) work.new list.new ≡ compared_over settings first.now second.now index.now work.old list.old }
 {
-    let refused = refusals::check(settings, first, second);
-    if refused.number != 0 {
-        return refused;
-    }
     // codes, and no records
+    let mut first_codes = [0u64; 16384];
+    let coded = compare::code_first(settings, first, second, &mut first_codes)?;
     let mut codes = [0u64; 16384];
-    let columns = kmers::code_all(second, settings.k, settings.mask, &mut codes);
     let mut keys = [0u64; 16384];
-    let Some(places) = index::check(&codes[..columns], index, &mut keys) else {
-        return answers::refuse(12, 0, 0);
-    };
-    let lookup = Lookup {
-        codes: &codes[..columns],
-        index,
-        keys: &keys,
-        places,
-    };
-    let mut coded = [0u64; 16384];
-    let rows = kmers::code_all(first, settings.k, settings.mask, &mut coded);
-    admitted::compare_indexed(settings, first, second, &coded[..rows], lookup, work, list)
+    let lookup = look_up(settings, second, index, &mut codes, &mut keys)?;
+    admitted::compare_indexed(settings, first, second, coded, lookup, work, list)
 }
 
 // The stopped sweep. Checks 1 to 6, with 9 and 10 after 4, then 12, 7 and 19.
@@ -50,27 +66,14 @@ pub fn stopped_over(
     index: &[u32],
     work: &mut [u32],
     row: u32,
-) -> Answer
-    ensures { left result work.new [] ≡ stopped_over settings first.now second.now index.now work.old row }
+) -> Result<Tallies, Refusal>
+    ensures { left (answer_of result) work.new [] ≡ stopped_over settings first.now second.now index.now work.old row }
 {
-    let refusal = refusals::check(settings, first, second);
-    if refusal.number != 0 {
-        return refusal;
-    }
     // as above
+    let mut first_codes = [0u64; 16384];
+    let coded = compare::code_first(settings, first, second, &mut first_codes)?;
     let mut codes = [0u64; 16384];
-    let columns = kmers::code_all(second, settings.k, settings.mask, &mut codes);
     let mut keys = [0u64; 16384];
-    let Some(places) = index::check(&codes[..columns], index, &mut keys) else {
-        return answers::refuse(12, 0, 0);
-    };
-    let lookup = Lookup {
-        codes: &codes[..columns],
-        index,
-        keys: &keys,
-        places,
-    };
-    let mut coded = [0u64; 16384];
-    let rows = kmers::code_all(first, settings.k, settings.mask, &mut coded);
-    admitted::stop_indexed(settings, first, second, &coded[..rows], lookup, work, row)
+    let lookup = look_up(settings, second, index, &mut codes, &mut keys)?;
+    admitted::stop_indexed(settings, first, second, coded, lookup, work, row)
 }

@@ -19,7 +19,6 @@ use Rattle.matches.specs.Walks.{walked, walked_need, WalkSafe}
 use Rattle.tally.specs.declared.Counts.{Counts}
 use Rattle.strands.specs.Strands.{entries_of, larger_of, both_counts, Entered}
 use Rattle.strands.proofs.Tallies.{both_few}
-use Rattle.jobs.specs.declared.Tallies.{Tallies}
 use Rattle.jobs.specs.Jobs.{entries_in, compared_of}
 
 -- ---- the entries in a list room
@@ -72,26 +71,26 @@ module _ {all : List (List ℕ)} {list : List ℕ} {n : ℕ} (v : Entered all li
 
 -- ---- the end of a job
 
-module _ (tallies : Tallies) (work list : List ℕ) (pairs-are : ℕ) {work' list' : List ℕ} {r : Answer} where
-  pub finish_8 : list_holds list < tallies.listed → r ≡ refusal 8 0 tallies.listed → work' ≡ zeros work → list' ≡ zeros list
-      → left r work' list' ≡ finishing (entries_in tallies.listed list) tallies.matches tallies.widest pairs-are work list
+module _ (listed : ℕ) (counts : Counts) (work list : List ℕ) (pairs-are : ℕ) {work' list' : List ℕ} {r : Answer} where
+  pub finish_8 : list_holds list < listed → r ≡ refusal 8 0 listed → work' ≡ zeros work → list' ≡ zeros list
+      → left r work' list' ≡ finishing (entries_in listed list) counts.matches counts.widest pairs-are work list
   unfolding zeroed
   finish_8 h er ew el =
-      let n = entries_count tallies.listed list in
+      let n = entries_count listed list in
       left_path (er ∙ ap (refusal 8 0) (sym n)) ew el ∙ sym (finishes_8 _ _ _ _ work list (omega arith))
 
-  pub finish_0 : {links : ℕ} → tallies.listed ≤ list_holds list → links ≡ pairs-are
-      → r ≡ done tallies.listed tallies.matches tallies.widest links → work' ≡ zeros work
-      → list' ≡ take (6 * tallies.listed) list ++ replicate (length list - 6 * tallies.listed) 0
-      → left r work' list' ≡ finishing (entries_in tallies.listed list) tallies.matches tallies.widest pairs-are work list
+  pub finish_0 : {links : ℕ} → listed ≤ list_holds list → links ≡ pairs-are
+      → r ≡ done listed counts.matches counts.widest links → work' ≡ zeros work
+      → list' ≡ take (6 * listed) list ++ replicate (length list - 6 * listed) 0
+      → left r work' list' ≡ finishing (entries_in listed list) counts.matches counts.widest pairs-are work list
   unfolding then_zeros
   finish_0 {links} h l er ew el =
-      let n = sym (entries_count tallies.listed list) in
-      let front = sym (entries_laid tallies.listed list) in
-      let size = length-take-le (6 * tallies.listed) list (room_for list tallies.listed h) in
-      let rest : length list - 6 * tallies.listed ≡ length list - length (laid (λ entry. entry) (entries_in tallies.listed list)) =
+      let n = sym (entries_count listed list) in
+      let front = sym (entries_laid listed list) in
+      let size = length-take-le (6 * listed) list (room_for list listed h) in
+      let rest : length list - 6 * listed ≡ length list - length (laid (λ entry. entry) (entries_in listed list)) =
       omega (arith, ap length front) in
-      left_path (er ∙ λ i. done (n i) tallies.matches tallies.widest (l i)) ew (el ∙ λ i. front i ++ replicate (rest i) 0)
+      left_path (er ∙ λ i. done (n i) counts.matches counts.widest (l i)) ew (el ∙ λ i. front i ++ replicate (rest i) 0)
       ∙ sym (finishes_0 _ _ _ _ work list (omega arith))
 
 -- ---- the compare job

@@ -5,21 +5,13 @@ ghost use Rattle.std.specs.Prelude.{◌≡◌, ◌+◌, ◌≤◌, length};
 ghost use Rattle.matches.specs.Walks.{walked, WalkSafe};
 ghost use Rattle.rules.specs.Rooms.{pairs};
 ghost use Rattle.rules.specs.Answers.{left, finishing};
+ghost use Rattle.answers.specs.Outcomes.{answer_of};
 ghost use Rattle.strands.specs.Strands.{Walked};
 ghost use Rattle.jobs.specs.Jobs.{entries_in, compared_of};
 
-use rules::{Answer, Settings};
-
-// The tallies of a job that is swept, but for its links.
-#[derive(Drop)]
-pub struct Tallies {
-    // how many entries it has, also where the list room is too short for them
-    pub listed: usize,
-    // M, the number of matches
-    pub matches: usize,
-    // W, the most matches in any run of rows i - b to i
-    pub widest: usize,
-}
+use answers::{Refusal, Tallies};
+use rules::Settings;
+use tally::Counts;
 
 // Check 8, and the end of a job whose entries stand in the list room: zeros after them and in the work room. The links cost at most b + 1 columns a
 // match, and few where matches lie close.
@@ -29,23 +21,28 @@ pub fn finish(
     reverse_firsts: &[u32],
     reverse_nexts: &[u32],
     b: usize,
-    tallies: Tallies,
+    listed: usize,
+    counts: Counts,
     work: &mut [u32],
     list: &mut [u32],
-) -> Answer
+) -> Result<Tallies, Refusal>
     requires walk_safe { WalkSafe firsts.now nexts.now }
     requires walk_safe_2 { WalkSafe reverse_firsts.now reverse_nexts.now }
-    ensures { left result work.new list.new ≡ finishing (entries_in tallies.listed list.old) tallies.matches tallies.widest (pairs b (walked firsts.now nexts.now) + pairs b (walked reverse_firsts.now reverse_nexts.now)) work.old list.old }
+    ensures { left (answer_of result) work.new list.new ≡ finishing (entries_in listed list.old) counts.matches counts.widest (pairs b (walked firsts.now nexts.now) + pairs b (walked reverse_firsts.now reverse_nexts.now)) work.old list.old }
 {
-    let listed = tallies.listed;
     rooms::zero_all(work);
     if rooms::entry_count(list) < listed {
         rooms::zero_all(list);
-        return answers::refuse(8, 0, listed as u64);
+        return Err(Refusal::ListRoom(listed));
     }
     rooms::zero_after_entries(list, listed);
     let links = strands::link_strands(firsts, nexts, reverse_firsts, reverse_nexts, b);
-    answers::done(listed, tallies.matches, tallies.widest, links)
+    Ok(Tallies {
+        listed,
+        matches: counts.matches,
+        widest: counts.widest,
+        links,
+    })
 }
 
 // Check 7, the sweeps over both strands of a second sequence of so many letters, and the end. A sweep costs at most a row's columns a row.
@@ -58,20 +55,19 @@ pub fn compare_matches(
     letters: u32,
     work: &mut [u32],
     list: &mut [u32],
-) -> Answer
+) -> Result<Tallies, Refusal>
     requires walked { Walked firsts.now nexts.now c }
     requires walked_2 { Walked reverse_firsts.now reverse_nexts.now c }
     requires letters_bound { letters ≤ 16384 }
-    ensures { left result work.new list.new ≡ compared_of c letters (walked firsts.now nexts.now) (length firsts.now) (walked reverse_firsts.now reverse_nexts.now) (length reverse_firsts.now) work.old list.old }
+    ensures { left (answer_of result) work.new list.new ≡ compared_of c letters (walked firsts.now nexts.now) (length firsts.now) (walked reverse_firsts.now reverse_nexts.now) (length reverse_firsts.now) work.old list.old }
 {
-    let b = numbers::wide(c.b);
+    let b = c.b as usize;
     let counts = strands::count_strands(firsts, nexts, reverse_firsts, reverse_nexts, b);
-    let matches = counts.matches;
     let widest = counts.widest;
     if rooms::record_count(work) < widest {
         rooms::zero_all(work);
         rooms::zero_all(list);
-        return answers::refuse(7, 0, widest as u64);
+        return Err(Refusal::WorkRoom(widest));
     }
     let listed = strands::list_strands(
         firsts,
@@ -84,18 +80,14 @@ pub fn compare_matches(
         work,
         list,
     );
-    let tallies = Tallies {
-        listed,
-        matches,
-        widest,
-    };
     finish(
         firsts,
         nexts,
         reverse_firsts,
         reverse_nexts,
         b,
-        tallies,
+        listed,
+        counts,
         work,
         list,
     )

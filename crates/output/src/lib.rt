@@ -91,7 +91,7 @@ pub fn answer_job(c: Settings, first: &[u8], second: &[u8], output: &mut [u8]) -
 {
     let mut work = [0u32; 4096];
     let mut list = [0u32; 2000];
-    let x = compare::compare(c, first, second, &mut work, &mut list);
+    let x = answers::answer(compare::compare(c, first, second, &mut work, &mut list));
     if x.number != 0 {
         let refused = Refused {
             number: x.number,

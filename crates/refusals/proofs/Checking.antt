@@ -15,6 +15,12 @@ use Rattle.rules.specs.Answers.{Line, on, first_of, refusal, outside, settings_c
 use Rattle.rules.proofs.Tests.{tests, tested}
 use Rattle.rules.proofs.Strands.{turned_length}
 use Rattle.rules.proofs.Masks.{read_length}
+use Rattle.answers.specs.declared.refusal.Refusal.{Refusal}
+use Rattle.std.specs.Prelude.{Result}
+use Rattle.std.specs.Result.{IsErrAnd}
+use Rattle.answers.specs.Outcomes.{refusal_of, check_of}
+use Rattle.answers.proofs.Exits.{check_exit}
+use Rattle.answers.proofs.Unique.{refusal_refuses}
 use Rattle.refusals.specs.Accepted.{Accepted}
 
 -- outside by the first test or by the second
@@ -65,6 +71,19 @@ unfolding given first_of refusal
 given_next others none_left e = refl
 given_next others (refusing true n q d z r) e = absurd (z e)
 given_next others (refusing false n q d z r) e = given_next others r e
+
+-- what a check of a piece returned: a refusal is what was asked for, and where it passes what comes after it is
+module _ (others : List (Line Answer)) {asked : Answer} {piece : List (Line Answer)} (next : asked ≡ given (piece ++ others)) (refuse : Refusing piece) where
+  pub refuses : (e : Refusal) (r : Result (Unit {0}) Refusal) → IsErrAnd r (λ d. d ≡ e) → refusal_of e ≡ given piece → check_of r ≡ asked
+  refuses e r exit is = check_exit e r exit (is ∙ sym (next ∙ given_first others refuse (number_refuses is (refusal_refuses e))))
+
+  pub passes : refusal 0 0 0 ≡ given piece → asked ≡ given others
+  unfolding refusal
+  passes e = next ∙ given_next others refuse (number_passes e refl)
+
+-- one line
+pub line_refuses : (t : Bool) (n q d : ℕ) → (n ≡ 0 → ⊥) → Refusing (on t (refusal n q d) ∷ [])
+line_refuses t n q d z = refusing t n q d z none_left
 
 pub settings_refuse : (c : Settings) → Refusing (settings_checks c)
 unfolding settings_checks

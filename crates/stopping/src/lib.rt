@@ -4,12 +4,14 @@
 ghost use Rattle.std.specs.Prelude.{◌≡◌, [], ◌-◌, ◌*◌, ◌^◌, ◌≤◌, ◌<◌, length};
 ghost use Rattle.matches.specs.Walks.{walked, walked_need};
 ghost use Rattle.rules.specs.Answers.{left};
+ghost use Rattle.answers.specs.Outcomes.{answer_of};
 ghost use Rattle.strands.specs.Strands.{Walked};
 ghost use Rattle.stopping.specs.Stopping.{stopped_of, Holds, RingFrom};
 
+use answers::{Refusal, Tallies};
 use matches::Walk;
 use predecessors::Ring;
-use rules::{Answer, Settings};
+use rules::Settings;
 
 // A ring of so many slots in which record number `before` lies in slot 0.
 fn ring_from(size: usize, before: usize) -> Ring
@@ -18,23 +20,8 @@ fn ring_from(size: usize, before: usize) -> Ring
     ensures { RingFrom size before result }
 {
     let over = before % size;
-    if over == 0 {
-        return Ring { size, origin: 0 };
-    }
-    Ring {
-        size,
-        origin: size - over,
-    }
-}
-
-// The last row before the run of a row, or 0.
-fn before_run(row: usize, b: usize) -> usize
-    ensures { result ≡ row - b - 1 }
-{
-    if row <= b {
-        return 0;
-    }
-    row - b - 1
+    let origin = if over == 0 { 0 } else { size - over };
+    Ring { size, origin }
 }
 
 // Sweeps the rows up to `row` over W slots so that its run begins in slot 0, and leaves it there, zeros after it; returns how many records it holds.
@@ -57,7 +44,8 @@ fn hold(
         rooms::zero_all(work);
         return 0;
     }
-    let last = before_run(row, numbers::wide(c.b));
+    // the last row before the run, or 0
+    let last = row.saturating_sub(c.b as usize + 1);
     let before = tally::matches_before(Walk { firsts, nexts }, last);
     let ring = ring_from(widest, before);
     sweep::hold_run(&firsts[..row], nexts, work, ring, c)
@@ -70,23 +58,29 @@ pub fn stop_matches(
     c: Settings,
     work: &mut [u32],
     row: usize,
-) -> Answer
+) -> Result<Tallies, Refusal>
     requires { Walked firsts.now nexts.now c }
-    ensures { left result work.new [] ≡ stopped_of c (walked firsts.now nexts.now) (length firsts.now) work.old row }
+    ensures { left (answer_of result) work.new [] ≡ stopped_of c (walked firsts.now nexts.now) (length firsts.now) work.old row }
 {
-    let b = numbers::wide(c.b);
+    let b = c.b as usize;
     let counts = tally::count_matches(Walk { firsts, nexts }, b);
     let widest = counts.widest;
     let holds = rooms::record_count(work);
     if holds < widest {
         rooms::zero_all(work);
-        return answers::refuse(7, 0, widest as u64);
+        return Err(Refusal::WorkRoom(widest));
     }
-    if firsts.len() < row {
+    let rows = firsts.len();
+    if rows < row {
         rooms::zero_all(work);
-        return answers::refuse(19, 0, firsts.len() as u64);
+        return Err(Refusal::NoRow(rows));
     }
     let held = hold(firsts, nexts, widest, c, work, row);
     let links = links::count_links(Walk { firsts, nexts }, b);
-    answers::done(held, counts.matches, counts.widest, links)
+    Ok(Tallies {
+        listed: held,
+        matches: counts.matches,
+        widest,
+        links,
+    })
 }

@@ -1,4 +1,5 @@
 -- `accepted::need_coded` meets its contract: W is counted from the walks of both strands. Assumes nothing.
+use Rattle.std.proofs.Common.{refl}
 use Rattle.accepted.proofs.Walking.{both_walks, measures}
 use Rattle.accepted.proofs.need_coded.Goals as goal
 
@@ -12,7 +13,7 @@ slice_bounds-count_strands-end-3 c =
 
 pub returns : goal.returns
 returns c =
-    measures (both_walks c.requires c.both-reverse_rows.ensures) c.wide.ensures.0 c.count_strands-counts.ensures
+    measures (both_walks c.requires c.both-reverse_rows.ensures) refl c.count_strands-counts.ensures
 
 pub count_strands-counts-requires : goal.count_strands-counts-requires
 count_strands-counts-requires c =

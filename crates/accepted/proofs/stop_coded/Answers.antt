@@ -1,10 +1,11 @@
 -- `accepted::stop_coded` meets its contract: the stopped sweep on the walks of a strand is the one on its matches. Assumes nothing.
+use Rattle.std.proofs.Common.{refl}
 use Rattle.accepted.proofs.Walking.{strand_walks, walks_fit, stops}
 use Rattle.accepted.proofs.stop_coded.Goals as goal
 
 pub returns : goal.returns
 returns c =
-    stops _ (strand_walks c.requires c.strand.ensures) _ c.wide.ensures.0 c.stop_matches.ensures
+    stops _ (strand_walks c.requires c.strand.ensures) _ refl c.stop_matches.ensures
 
 pub stop_matches-requires : goal.stop_matches-requires
 stop_matches-requires c =

@@ -1,5 +1,5 @@
 -- The stopped sweep on the walks of a strand, found over the index, is the one on its matches. Assumes nothing.
-use lib.ListN.{length}
+use Rattle.std.proofs.Common.{length, refl}
 use Rattle.rules.specs.Letters.{as_read}
 use Rattle.rules.specs.Strands.{on_strand}
 use Rattle.walks.proofs.Matching.{Matched}
@@ -10,7 +10,7 @@ use Rattle.admitted.proofs.stop_indexed.Goals as goal
 pub returns : goal.returns
 returns c =
     let walked : Matched c.args.c c.args.coded.now (on_strand c.args.c.strand (as_read c.args.c.mask c.args.second.now)) c.strand.new.firsts c.strand.new.nexts (length c.args.coded.now) = columns_matched c.args.second.now c.requires.fits_first c.args.lookup.few c.requires.codes_value c.args.c.strand blank blank c.strand.ensures in
-    stops _ walked _ c.wide.ensures.0 c.stop_matches.ensures
+    stops _ walked _ refl c.stop_matches.ensures
 
 pub stop_matches-requires : goal.stop_matches-requires
 stop_matches-requires c =

@@ -1,5 +1,5 @@
 -- The sort orders the places, of which so many have a k-mer; there is no room for them, or they are written and zeros after them. Assumes nothing.
-use mathlib.Core.Path.{◌≡◌}
+use mathlib.Core.Path.{◌≡◌, refl}
 use Prim.Native.Nat.{ℕ, ◌≤◌}
 use native.Mathlib.Omega.{arith}
 use lib.ListN.{length, replicate, length-replicate}
@@ -15,10 +15,10 @@ pub returns-then-index-n : goal.returns-then-index-n
 returns-then-index-n c =
     let inside : c.sort_places-n.result ≤ length c.sort_places-n.new.out = omega (arith, c.sort_places-n.ensures.within, c.sort_places-n.ensures.long, c.requires, room) in
     let count : c.sort_places-n.result ≡ kmer_places c.args.codes.now = ordered_count c.sort_places-n.ensures inside in
-    ends_11 _ _ count c.if-index-n.true c.refuse.ensures c.zero_all.ensures
+    ends_11 _ _ count c.if-index-n.true refl c.zero_all.ensures
 
 pub returns : goal.returns
 returns c =
     let inside : c.sort_places-n.result ≤ length c.sort_places-n.new.out = omega (arith, c.sort_places-n.ensures.within, c.sort_places-n.ensures.long, c.requires, room) in
     let count : c.sort_places-n.result ≡ kmer_places c.args.codes.now = ordered_count c.sort_places-n.ensures inside in
-    ends_0 _ _ count c.if-index-n.false c.done.ensures (index_left c.sort_places-n.ensures c.put_places.ensures c.if-index-n.false c.zero_from.ensures)
+    ends_0 _ _ count c.if-index-n.false refl (index_left c.sort_places-n.ensures c.put_places.ensures c.if-index-n.false c.zero_from.ensures)

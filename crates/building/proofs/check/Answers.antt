@@ -1,22 +1,23 @@
--- The first test that applies gives its refusal, and each is looked at only where those before it do not apply. Assumes nothing.
-use mathlib.Core.Path.{sym, ◌∙◌}
-use Rattle.building.proofs.Checking.{checks_1, checks_10, checks_5, checks_6}
+-- Each exit gives the first line that refuses, where those before it pass. Assumes nothing.
+use Rattle.std.proofs.Common.{sym, ◌∙◌, arith}
+use Rattle.refusals.proofs.Checking.{refuses, line_refuses}
+use Rattle.building.proofs.Checking.{lines, others, all_lines, past_k, past_mask}
 use Rattle.building.proofs.check.Goals as goal
 
-pub returns-then-is_outside : goal.returns-then-is_outside
-returns-then-is_outside c =
-    c.refuse.ensures ∙ sym (checks_1 _ _ _ (sym c.is_outside.ensures ∙ c.if-is_outside.true))
+pub returns-in_err-check_setting : goal.returns-in_err-check_setting
+returns-in_err-check_setting c =
+    let a = c.args in
+    refuses (others a.mask a.second.now) (all_lines a.mask a.second.now a.k) (line_refuses _ 1 0 0 (λ z. omega arith))
+    c.in_err-check_setting.field-0.0 c.from_residual.result c.from_residual.ensures.1 c.in_err-check_setting.ensures
 
-pub returns-then-is_outside-2 : goal.returns-then-is_outside-2
-returns-then-is_outside-2 c =
-    c.refuse-then-is_outside-2.ensures
-    ∙ sym (checks_10 _ _ _ (sym c.is_outside.ensures ∙ c.if-is_outside.false) (sym c.is_outside-2.ensures ∙ c.if-is_outside-2.true))
-
-pub returns-then-long-ne0 : goal.returns-then-long-ne0
-returns-then-long-ne0 c =
-    sym (checks_5 _ _ _ (sym c.is_outside.ensures ∙ c.if-is_outside.false) (sym c.is_outside-2.ensures ∙ c.if-is_outside-2.false) c.check_length-long.ensures c.if-long-ne0.true)
+pub returns-in_err-check_setting-2 : goal.returns-in_err-check_setting-2
+returns-in_err-check_setting-2 c =
+    let a = c.args in
+    refuses (lines a.mask a.second.now) (past_k a.mask a.second.now a.k c.in_ok-check_setting.ensures) (line_refuses _ 10 0 0 (λ z. omega arith))
+    c.in_err-check_setting-2.field-0.0 c.from_residual-in_err-check_setting-2.result c.from_residual-in_err-check_setting-2.ensures.1
+    c.in_err-check_setting-2.ensures
 
 pub returns : goal.returns
 returns c =
-    c.check_letters.ensures
-    ∙ sym (checks_6 _ _ _ (sym c.is_outside.ensures ∙ c.if-is_outside.false) (sym c.is_outside-2.ensures ∙ c.if-is_outside-2.false) c.check_length-long.ensures c.if-long-ne0.false)
+    let a = c.args in
+    c.check_sequence.ensures ∙ sym (past_mask a.mask a.second.now a.k c.in_ok-check_setting.ensures c.in_ok-check_setting-2.ensures)

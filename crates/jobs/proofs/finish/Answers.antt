@@ -1,12 +1,12 @@
 -- `jobs::finish` meets its contract: each return is a line of the table. Assumes nothing.
-use native.Mathlib.Omega.{arith}
+use Rattle.std.proofs.Common.{refl, arith}
 use Rattle.rules.specs.Rooms.{list_holds}
 use Rattle.jobs.proofs.Outcomes.{finish_8, finish_0}
 use Rattle.jobs.proofs.finish.Goals as goal
 
 pub returns-then-entry_count-listed : goal.returns-then-entry_count-listed
 returns-then-entry_count-listed c =
-    finish_8 _ _ _ _ (omega (arith, c.entry_count.ensures, c.if-entry_count-listed.true)) c.refuse.ensures c.zero_all.ensures c.zero_all-then-entry_count-listed.ensures
+    finish_8 c.args.listed c.args.counts _ _ _ (omega (arith, c.entry_count.ensures, c.if-entry_count-listed.true)) refl c.zero_all.ensures c.zero_all-then-entry_count-listed.ensures
 
 pub zero_after_entries-requires : goal.zero_after_entries-requires
 unfolding list_holds
@@ -15,5 +15,5 @@ zero_after_entries-requires c =
 
 pub returns : goal.returns
 returns c =
-    finish_0 _ _ _ _ (omega (arith, c.entry_count.ensures, c.if-entry_count-listed.false)) c.link_strands-links.ensures c.done.ensures c.zero_all.ensures
+    finish_0 c.args.listed c.args.counts _ _ _ (omega (arith, c.entry_count.ensures, c.if-entry_count-listed.false)) c.link_strands-links.ensures refl c.zero_all.ensures
     c.zero_after_entries.ensures

@@ -1,26 +1,12 @@
--- `refusals::check` meets its contract: each return is the first piece that refuses, where none before it does. Assumes nothing.
-use mathlib.Core.Path.{◌≡◌, sym, ◌∙◌}
-use mathlib.Core.List.{List, [], ◌∷◌, ◌++◌}
-use Prim.Native.Nat.{ℕ}
-use lib.ListN.{length}
+-- `refusals::check` meets its contract: each exit gives the first piece that refuses, where those before it pass. Assumes nothing.
+use Rattle.std.proofs.Common.{◌≡◌, ℕ, List, [], ◌∷◌, ◌++◌, length, sym, ◌∙◌}
 use Rattle.rules.specs.declared.Settings.{Settings}
 use Rattle.rules.specs.declared.Answer.{Answer}
-use Rattle.rules.specs.Answers.{Line, settings_checks, length_check, letter_check, given, checked}
-use Rattle.refusals.proofs.Checking.{Refusing, number_passes, number_refuses, given_first, given_next}
-use Rattle.refusals.proofs.Checking.{settings_refuse, length_refuses, letters_refuse, in_pieces}
+use Rattle.rules.specs.Answers.{Line, refusal, settings_checks, length_check, letter_check, given, checked}
+use Rattle.refusals.proofs.Checking.{refuses, passes, settings_refuse, length_refuses, letters_refuse, in_pieces}
 use Rattle.refusals.proofs.check.Goals as goal
 
--- the answer x of a piece that is next: where it refuses it is what was asked for, and where it passes the other pieces are given
-module _ (others : List (Line Answer)) {asked x : Answer} {piece : List (Line Answer)}
-    (next : asked ≡ given (piece ++ others)) (refusing : Refusing piece) (x_is : x ≡ given piece) where
-  refuses : (x.number ≡ 0 → ⊥) → x ≡ asked
-  refuses h = x_is ∙ sym (next ∙ given_first others refusing (number_refuses x_is h))
-
-  passes : x.number ≡ 0 → asked ≡ given others
-  passes z = next ∙ given_next others refusing (number_passes x_is z)
-
--- each piece of a job's checks is what was asked for, where it refuses and those before it pass
-module _ (settings : Settings) (first second : List ℕ) where
+module _ (c : Settings) (first second : List ℕ) where
   -- the pieces that are left behind the settings, the first length, the second, and the first letters
   abbrev after_first_letters : List (Line Answer)
   after_first_letters = letter_check 2 second ∷ []
@@ -34,65 +20,49 @@ module _ (settings : Settings) (first second : List ℕ) where
   abbrev after_settings : List (Line Answer)
   after_settings = (length_check 1 (length first) ∷ []) ++ after_first_length
 
-  module _ {entered : Answer} (entered_is : entered ≡ given (settings_checks settings)) where
-    settings_refused : (entered.number ≡ 0 → ⊥) → entered ≡ checked settings first second
-    settings_refused = refuses after_settings (in_pieces settings first second) (settings_refuse settings) entered_is
+  module _ (settings_pass : refusal 0 0 0 ≡ given (settings_checks c)) where
+    past_settings : checked c first second ≡ given after_settings
+    past_settings = passes after_settings (in_pieces c first second) (settings_refuse c) settings_pass
 
-    module _ (settings_pass : entered.number ≡ 0)
-        {first_length : Answer} (first_length_is : first_length ≡ given (length_check 1 (length first) ∷ [])) where
-      past_settings : checked settings first second ≡ given after_settings
-      past_settings = passes after_settings (in_pieces settings first second) (settings_refuse settings) entered_is settings_pass
+    module _ (first_length_passes : refusal 0 0 0 ≡ given (length_check 1 (length first) ∷ [])) where
+      past_first_length : checked c first second ≡ given after_first_length
+      past_first_length = passes after_first_length past_settings (length_refuses 1 (length first)) first_length_passes
 
-      first_length_refused : (first_length.number ≡ 0 → ⊥) → first_length ≡ checked settings first second
-      first_length_refused = refuses after_first_length past_settings (length_refuses 1 (length first)) first_length_is
+      module _ (second_length_passes : refusal 0 0 0 ≡ given (length_check 2 (length second) ∷ [])) where
+        past_second_length : checked c first second ≡ given after_second_length
+        past_second_length = passes after_second_length past_first_length (length_refuses 2 (length second)) second_length_passes
 
-      module _ (first_length_passes : first_length.number ≡ 0)
-          {second_length : Answer} (second_length_is : second_length ≡ given (length_check 2 (length second) ∷ [])) where
-        past_first_length : checked settings first second ≡ given after_first_length
-        past_first_length = passes after_first_length past_settings (length_refuses 1 (length first)) first_length_is first_length_passes
+        past_first_letters : refusal 0 0 0 ≡ given (letter_check 1 first ∷ []) → checked c first second ≡ given after_first_letters
+        past_first_letters = passes after_first_letters past_second_length (letters_refuse 1 first)
 
-        second_length_refused : (second_length.number ≡ 0 → ⊥) → second_length ≡ checked settings first second
-        second_length_refused = refuses after_second_length past_first_length (length_refuses 2 (length second)) second_length_is
-
-        module _ (second_length_passes : second_length.number ≡ 0)
-            {first_letters : Answer} (first_letters_is : first_letters ≡ given (letter_check 1 first ∷ [])) where
-          past_second_length : checked settings first second ≡ given after_second_length
-          past_second_length = passes after_second_length past_first_length (length_refuses 2 (length second)) second_length_is second_length_passes
-
-          first_letters_refused : (first_letters.number ≡ 0 → ⊥) → first_letters ≡ checked settings first second
-          first_letters_refused = refuses after_first_letters past_second_length (letters_refuse 1 first) first_letters_is
-
-          past_first_letters : first_letters.number ≡ 0 → checked settings first second ≡ given after_first_letters
-          past_first_letters = passes after_first_letters past_second_length (letters_refuse 1 first) first_letters_is
-
-pub returns-then-entered-ne0 : goal.returns-then-entered-ne0
-returns-then-entered-ne0 c =
+pub returns-in_err-check_settings : goal.returns-in_err-check_settings
+returns-in_err-check_settings c =
     let a = c.args in
-    settings_refused a.c a.first.now a.second.now c.check_settings-entered.ensures c.if-entered-ne0.true
+    refuses (after_settings a.c a.first.now a.second.now) (in_pieces a.c a.first.now a.second.now) (settings_refuse a.c) c.in_err-check_settings.field-0.0 c.from_residual.result c.from_residual.ensures.1 c.in_err-check_settings.ensures
 
-pub returns-then-first_length-ne0 : goal.returns-then-first_length-ne0
-returns-then-first_length-ne0 c =
+pub returns-in_err-check_length : goal.returns-in_err-check_length
+returns-in_err-check_length c =
     let a = c.args in
-    first_length_refused a.c a.first.now a.second.now c.check_settings-entered.ensures c.if-entered-ne0.false
-    c.check_length-first_length.ensures c.if-first_length-ne0.true
+    refuses (after_first_length a.c a.first.now a.second.now) (past_settings a.c a.first.now a.second.now c.in_ok-check_settings.ensures)
+    (length_refuses 1 (length a.first.now)) c.in_err-check_length.field-0.0 c.from_residual-in_err-check_length.result c.from_residual-in_err-check_length.ensures.1 c.in_err-check_length.ensures
 
-pub returns-then-second_length-ne0 : goal.returns-then-second_length-ne0
-returns-then-second_length-ne0 c =
+pub returns-in_err-check_length-2 : goal.returns-in_err-check_length-2
+returns-in_err-check_length-2 c =
     let a = c.args in
-    second_length_refused a.c a.first.now a.second.now c.check_settings-entered.ensures c.if-entered-ne0.false
-    c.check_length-first_length.ensures c.if-first_length-ne0.false c.check_length-second_length.ensures c.if-second_length-ne0.true
+    refuses (after_second_length a.c a.first.now a.second.now)
+    (past_first_length a.c a.first.now a.second.now c.in_ok-check_settings.ensures c.in_ok-check_length.ensures)
+    (length_refuses 2 (length a.second.now)) c.in_err-check_length-2.field-0.0 c.from_residual-in_err-check_length-2.result c.from_residual-in_err-check_length-2.ensures.1 c.in_err-check_length-2.ensures
 
-pub returns-then-first_letters-ne0 : goal.returns-then-first_letters-ne0
-returns-then-first_letters-ne0 c =
+pub returns-in_err-check_letters : goal.returns-in_err-check_letters
+returns-in_err-check_letters c =
     let a = c.args in
-    first_letters_refused a.c a.first.now a.second.now c.check_settings-entered.ensures c.if-entered-ne0.false
-    c.check_length-first_length.ensures c.if-first_length-ne0.false c.check_length-second_length.ensures c.if-second_length-ne0.false
-    c.check_letters-first_letters.ensures c.if-first_letters-ne0.true
+    refuses (after_first_letters a.c a.first.now a.second.now)
+    (past_second_length a.c a.first.now a.second.now c.in_ok-check_settings.ensures c.in_ok-check_length.ensures c.in_ok-check_length-2.ensures)
+    (letters_refuse 1 a.first.now) c.in_err-check_letters.field-0.0 c.from_residual-in_err-check_letters.result c.from_residual-in_err-check_letters.ensures.1 c.in_err-check_letters.ensures
 
 pub returns : goal.returns
 returns c =
     let a = c.args in
-    c.check_letters.ensures
-    ∙ sym (past_first_letters a.c a.first.now a.second.now c.check_settings-entered.ensures c.if-entered-ne0.false
-    c.check_length-first_length.ensures c.if-first_length-ne0.false c.check_length-second_length.ensures c.if-second_length-ne0.false
-    c.check_letters-first_letters.ensures c.if-first_letters-ne0.false)
+    c.check_letters-2.ensures
+    ∙ sym (past_first_letters a.c a.first.now a.second.now c.in_ok-check_settings.ensures c.in_ok-check_length.ensures c.in_ok-check_length-2.ensures
+    c.in_ok-check_letters.ensures)

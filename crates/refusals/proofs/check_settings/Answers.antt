@@ -1,64 +1,87 @@
--- `refusals::check_settings` meets its contract: each return is the first check that applies, where none before it does. Assumes nothing.
-use mathlib.Core.Path.{◌≡◌, sym, ◌∙◌}
-use mathlib.Core.Bool.{true, false}
+-- `refusals::check_settings` meets its contract: each exit gives the first line that refuses, where those before it pass. Assumes nothing.
+use Rattle.std.proofs.Common.{◌≡◌, List, [], ◌∷◌, refl, sym, ◌∙◌, arith}
 use Rattle.rules.specs.declared.Settings.{Settings}
-use Rattle.rules.specs.Answers.{first_of, refusal, outside, settings_checks, given}
+use Rattle.rules.specs.declared.Answer.{Answer}
+use Rattle.rules.specs.Answers.{Line, on, refusal, outside, settings_checks, given}
+use Rattle.refusals.proofs.Checking.{refuses, passes, line_refuses}
 use Rattle.refusals.proofs.check_settings.Goals as goal
 
--- the first check that applies, where those before it do not
 module _ (c : Settings) where
-  refused_1 : outside 1 31 c.k ≡ true → given (settings_checks c) ≡ refusal 1 0 0
-  unfolding first_of settings_checks given
-  refused_1 e = rw e
+  abbrev line_k : Line Answer
+  line_k = on (outside 1 31 c.k) (refusal 1 0 0)
 
-  refused_2 : outside 1 31 c.k ≡ false → outside 1 1024 c.b ≡ true → given (settings_checks c) ≡ refusal 2 0 0
-  unfolding first_of settings_checks given
-  refused_2 n1 e = rw (n1, e)
+  abbrev line_b : Line Answer
+  line_b = on (outside 1 1024 c.b) (refusal 2 0 0)
 
-  refused_3 : outside 1 31 c.k ≡ false → outside 1 1024 c.b ≡ false → outside 1 1024 c.a ≡ true → given (settings_checks c) ≡ refusal 3 0 0
-  unfolding first_of settings_checks given
-  refused_3 n1 n2 e = rw (n1, n2, e)
+  abbrev line_a : Line Answer
+  line_a = on (outside 1 1024 c.a) (refusal 3 0 0)
 
-  refused_4 : outside 1 31 c.k ≡ false → outside 1 1024 c.b ≡ false → outside 1 1024 c.a ≡ false → outside 0 16384 c.m ≡ true → given (settings_checks c) ≡ refusal 4 0 0
-  unfolding first_of settings_checks given
-  refused_4 n1 n2 n3 e = rw (n1, n2, n3, e)
+  abbrev line_m : Line Answer
+  line_m = on (outside 0 16384 c.m) (refusal 4 0 0)
 
-  refused_9 : outside 1 31 c.k ≡ false → outside 1 1024 c.b ≡ false → outside 1 1024 c.a ≡ false → outside 0 16384 c.m ≡ false → outside 0 1 c.strand ≡ true → given (settings_checks c) ≡ refusal 9 0 0
-  unfolding first_of settings_checks given
-  refused_9 n1 n2 n3 n4 e = rw (n1, n2, n3, n4, e)
+  abbrev line_strand : Line Answer
+  line_strand = on (outside 0 1 c.strand) (refusal 9 0 0)
 
-  refused_10 : outside 1 31 c.k ≡ false → outside 1 1024 c.b ≡ false → outside 1 1024 c.a ≡ false → outside 0 16384 c.m ≡ false → outside 0 1 c.strand ≡ false → outside 0 1 c.mask ≡ true → given (settings_checks c) ≡ refusal 10 0 0
-  unfolding first_of settings_checks given
-  refused_10 n1 n2 n3 n4 n5 e = rw (n1, n2, n3, n4, n5, e)
+  abbrev line_mask : Line Answer
+  line_mask = on (outside 0 1 c.mask) (refusal 10 0 0)
 
-  none_refuses : outside 1 31 c.k ≡ false → outside 1 1024 c.b ≡ false → outside 1 1024 c.a ≡ false → outside 0 16384 c.m ≡ false → outside 0 1 c.strand ≡ false → outside 0 1 c.mask ≡ false → given (settings_checks c) ≡ refusal 0 0 0
-  unfolding first_of settings_checks given
-  none_refuses n1 n2 n3 n4 n5 n6 = rw (n1, n2, n3, n4, n5, n6)
+  -- the lines behind one
+  abbrev after_strand : List (Line Answer)
+  after_strand = line_mask ∷ []
 
-pub returns-then-is_outside : goal.returns-then-is_outside
-returns-then-is_outside c =
-    c.refuse.ensures ∙ sym (refused_1 c.args.c (sym c.is_outside.ensures ∙ c.if-is_outside.true))
+  abbrev after_m : List (Line Answer)
+  after_m = line_strand ∷ after_strand
 
-pub returns-then-is_outside-2 : goal.returns-then-is_outside-2
-returns-then-is_outside-2 c =
-    c.refuse-then-is_outside-2.ensures ∙ sym (refused_2 c.args.c (sym c.is_outside.ensures ∙ c.if-is_outside.false) (sym c.is_outside-2.ensures ∙ c.if-is_outside-2.true))
+  abbrev after_a : List (Line Answer)
+  after_a = line_m ∷ after_m
 
-pub returns-then-is_outside-3 : goal.returns-then-is_outside-3
-returns-then-is_outside-3 c =
-    c.refuse-then-is_outside-3.ensures ∙ sym (refused_3 c.args.c (sym c.is_outside.ensures ∙ c.if-is_outside.false) (sym c.is_outside-2.ensures ∙ c.if-is_outside-2.false) (sym c.is_outside-3.ensures ∙ c.if-is_outside-3.true))
+  abbrev after_b : List (Line Answer)
+  after_b = line_a ∷ after_a
 
-pub returns-then-is_outside-4 : goal.returns-then-is_outside-4
-returns-then-is_outside-4 c =
-    c.refuse-then-is_outside-4.ensures ∙ sym (refused_4 c.args.c (sym c.is_outside.ensures ∙ c.if-is_outside.false) (sym c.is_outside-2.ensures ∙ c.if-is_outside-2.false) (sym c.is_outside-3.ensures ∙ c.if-is_outside-3.false) (sym c.is_outside-4.ensures ∙ c.if-is_outside-4.true))
+  abbrev after_k : List (Line Answer)
+  after_k = line_b ∷ after_b
 
-pub returns-then-is_outside-5 : goal.returns-then-is_outside-5
-returns-then-is_outside-5 c =
-    c.refuse-then-is_outside-5.ensures ∙ sym (refused_9 c.args.c (sym c.is_outside.ensures ∙ c.if-is_outside.false) (sym c.is_outside-2.ensures ∙ c.if-is_outside-2.false) (sym c.is_outside-3.ensures ∙ c.if-is_outside-3.false) (sym c.is_outside-4.ensures ∙ c.if-is_outside-4.false) (sym c.is_outside-5.ensures ∙ c.if-is_outside-5.true))
+  module _ (k_passes : refusal 0 0 0 ≡ given (line_k ∷ [])) where
+    past_k : given (settings_checks c) ≡ given after_k
+    unfolding settings_checks
+    past_k = passes after_k refl (line_refuses (outside 1 31 c.k) 1 0 0 (λ z. omega arith)) k_passes
 
-pub returns-then-is_outside-6 : goal.returns-then-is_outside-6
-returns-then-is_outside-6 c =
-    c.refuse-then-is_outside-6.ensures ∙ sym (refused_10 c.args.c (sym c.is_outside.ensures ∙ c.if-is_outside.false) (sym c.is_outside-2.ensures ∙ c.if-is_outside-2.false) (sym c.is_outside-3.ensures ∙ c.if-is_outside-3.false) (sym c.is_outside-4.ensures ∙ c.if-is_outside-4.false) (sym c.is_outside-5.ensures ∙ c.if-is_outside-5.false) (sym c.is_outside-6.ensures ∙ c.if-is_outside-6.true))
+    module _ (b_passes : refusal 0 0 0 ≡ given (line_b ∷ [])) where
+      past_b : given (settings_checks c) ≡ given after_b
+      past_b = passes after_b past_k (line_refuses (outside 1 1024 c.b) 2 0 0 (λ z. omega arith)) b_passes
+
+      module _ (a_passes : refusal 0 0 0 ≡ given (line_a ∷ [])) where
+        past_a : given (settings_checks c) ≡ given after_a
+        past_a = passes after_a past_b (line_refuses (outside 1 1024 c.a) 3 0 0 (λ z. omega arith)) a_passes
+
+        module _ (m_passes : refusal 0 0 0 ≡ given (line_m ∷ [])) where
+          past_m : given (settings_checks c) ≡ given after_m
+          past_m = passes after_m past_a (line_refuses (outside 0 16384 c.m) 4 0 0 (λ z. omega arith)) m_passes
+
+          module _ (strand_passes : refusal 0 0 0 ≡ given (line_strand ∷ [])) where
+            past_strand : given (settings_checks c) ≡ given after_strand
+            past_strand = passes after_strand past_m (line_refuses (outside 0 1 c.strand) 9 0 0 (λ z. omega arith)) strand_passes
+
+pub returns-in_err-check_setting : goal.returns-in_err-check_setting
+unfolding settings_checks
+returns-in_err-check_setting c =
+    refuses (after_k c.args.c) refl (line_refuses _ 1 0 0 (λ z. omega arith)) c.in_err-check_setting.field-0.0 c.from_residual.result c.from_residual.ensures.1 c.in_err-check_setting.ensures
+
+pub returns-in_err-check_setting-2 : goal.returns-in_err-check_setting-2
+returns-in_err-check_setting-2 c =
+    refuses (after_b c.args.c) (past_k c.args.c c.in_ok-check_setting.ensures) (line_refuses _ 2 0 0 (λ z. omega arith)) c.in_err-check_setting-2.field-0.0 c.from_residual-in_err-check_setting-2.result c.from_residual-in_err-check_setting-2.ensures.1 c.in_err-check_setting-2.ensures
+
+pub returns-in_err-check_setting-3 : goal.returns-in_err-check_setting-3
+returns-in_err-check_setting-3 c =
+    refuses (after_a c.args.c) (past_b c.args.c c.in_ok-check_setting.ensures c.in_ok-check_setting-2.ensures) (line_refuses _ 3 0 0 (λ z. omega arith)) c.in_err-check_setting-3.field-0.0 c.from_residual-in_err-check_setting-3.result c.from_residual-in_err-check_setting-3.ensures.1 c.in_err-check_setting-3.ensures
+
+pub returns-in_err-check_setting-4 : goal.returns-in_err-check_setting-4
+returns-in_err-check_setting-4 c =
+    refuses (after_m c.args.c) (past_a c.args.c c.in_ok-check_setting.ensures c.in_ok-check_setting-2.ensures c.in_ok-check_setting-3.ensures) (line_refuses _ 4 0 0 (λ z. omega arith)) c.in_err-check_setting-4.field-0.0 c.from_residual-in_err-check_setting-4.result c.from_residual-in_err-check_setting-4.ensures.1 c.in_err-check_setting-4.ensures
+
+pub returns-in_err-check_setting-5 : goal.returns-in_err-check_setting-5
+returns-in_err-check_setting-5 c =
+    refuses (after_strand c.args.c) (past_m c.args.c c.in_ok-check_setting.ensures c.in_ok-check_setting-2.ensures c.in_ok-check_setting-3.ensures c.in_ok-check_setting-4.ensures) (line_refuses _ 9 0 0 (λ z. omega arith)) c.in_err-check_setting-5.field-0.0 c.from_residual-in_err-check_setting-5.result c.from_residual-in_err-check_setting-5.ensures.1 c.in_err-check_setting-5.ensures
 
 pub returns : goal.returns
-returns c =
-    c.refuse-2.ensures ∙ sym (none_refuses c.args.c (sym c.is_outside.ensures ∙ c.if-is_outside.false) (sym c.is_outside-2.ensures ∙ c.if-is_outside-2.false) (sym c.is_outside-3.ensures ∙ c.if-is_outside-3.false) (sym c.is_outside-4.ensures ∙ c.if-is_outside-4.false) (sym c.is_outside-5.ensures ∙ c.if-is_outside-5.false) (sym c.is_outside-6.ensures ∙ c.if-is_outside-6.false))
+returns c = c.check_setting-6.ensures ∙ sym (past_strand c.args.c c.in_ok-check_setting.ensures c.in_ok-check_setting-2.ensures c.in_ok-check_setting-3.ensures c.in_ok-check_setting-4.ensures c.in_ok-check_setting-5.ensures)

@@ -1,6 +1,5 @@
 -- `stopping::hold` meets its contract: with W 0 no run has a record, and else the sweep of the first rows leaves the run. Assumes nothing.
-use mathlib.Core.Path.{◌≡◌, ap, ◌∙◌}
-use Prim.Native.Nat.{ℕ, ◌-◌}
+use Rattle.std.proofs.Common.{◌≡◌, ◌-◌, arith}
 use Rattle.stopping.proofs.Holding.{hold_safe, hold_enough, hold_front, holds_none, holds_swept}
 use Rattle.stopping.proofs.hold.Goals as goal
 
@@ -14,6 +13,5 @@ returns c =
 
 pub hold_run-requires : goal.hold_run-requires
 hold_run-requires c =
-    let last : c.before_run-last.result ≡ c.args.row - c.args.c.b - 1 =
-    c.before_run-last.ensures ∙ ap (λ (b : ℕ). c.args.row - b - 1) c.wide.ensures.0 in
+    let last : c.saturating_sub-last.result ≡ c.args.row - c.args.c.b - 1 = omega arith in
     record { sweep_safe = hold_safe c.requires.walked c.requires.widest_in_bounds c.requires.row_in_bounds c.ring_from-ring.ensures; nexts_bound = hold_enough c.requires.walked.walks c.requires.row_in_bounds c.ring_from-ring.ensures c.args.c.b c.requires.nexts_bound; b_value = hold_front c.requires.walked.walks c.requires.row_in_bounds c.ring_from-ring.ensures c.args.c.b last c.matches_before-before.ensures }

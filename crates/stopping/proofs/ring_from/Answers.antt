@@ -6,6 +6,6 @@ pub returns-then-over-eq0 : goal.returns-then-over-eq0
 returns-then-over-eq0 c =
     ring_even c.args.size c.args.before c.requires.le_size c.requires.size_bound c.if-over-eq0.true
 
-pub returns : goal.returns
-returns c =
+pub returns-else-over-eq0 : goal.returns-else-over-eq0
+returns-else-over-eq0 c =
     ring_odd c.args.size c.args.before c.requires.le_size c.requires.size_bound c.if-over-eq0.false
