@@ -68,9 +68,6 @@ module _ (list old out : List ℕ) (x : Answer) (n at : ℕ) (safe : ListingSafe
       ap length eo
       ∙ (let r = entries_safe.room in omega (arith, length-append text (drop (27 * n) old), entries_length list n, length-drop (27 * n) old))
 
-  pub done_inside : at ≤ length out
-  done_inside = let r = entries_safe.room in omega (arith, out_long)
-
   e : at ≡ length text
   e = ea ∙ sym (entries_length list n)
 

@@ -200,8 +200,3 @@ module _ {list old : List ℕ} {count : ℕ} where
       pub writing_next : (wide : ℕ) → wide ≡ 27 → Writing list old (put_mid at (length out - at) out left) count (at + wide) (n + 1)
       writing_next wide w =
           record { most = omega arith; place = (let p = v.place in omega arith); lines = lines_next; long = long_next }
-
-    pub writing_end : count ≤ n → (at ≡ 27 * count) × (out ≡ laid line_of_entry (entries_in list count) ++ drop (27 * count) old)
-    writing_end h =
-        let q : n ≡ count = let m = v.most in omega arith in
-        (v.place ∙ ap (λ (k : ℕ). 27 * k) q, v.lines ∙ ap (λ (k : ℕ). laid line_of_entry (entries_in list k) ++ drop (27 * k) old) q)

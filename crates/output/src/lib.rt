@@ -4,13 +4,15 @@
 ghost use Rattle.std.specs.Prelude.{◌≡◌, true, ◌++◌, ◌+◌, ◌*◌, ◌≤◌, length, drop};
 ghost use Rattle.rules.specs.Lists.{laid};
 ghost use Rattle.lines.specs.Writing.{in_front, written, written_of, leaves};
+ghost use Rattle.answers.specs.Outcomes.{tallied};
 ghost use Rattle.kinds.specs.Kinds.{entry_fits, refused_line, refused_fits};
 ghost use Rattle.output.specs.Output.{entry_of, line_of_entry, job_output};
 ghost use Rattle.output.specs.Entries.{entry_in, entries_in, EntriesSafe, ListingSafe, listing_lines};
 
+use answers::Tallies;
 use kinds::{Done, Entry, Refused, Span};
 use lines::FrameError;
-use rules::{Answer, Settings};
+use rules::Settings;
 
 // The first five of an entry's six numbers.
 fn entry_of(numbers: &[u32; 6]) -> Entry
@@ -58,17 +60,18 @@ fn put_entries(list: &[u32], count: usize, output: &mut [u8]) -> usize
 }
 
 // Writes the entries of a list room and one done frame, and returns where the lines end.
-fn put_listing(list: &[u32], x: Answer, output: &mut [u8]) -> usize
-    requires { ListingSafe list.now output.old x }
-    ensures value { result ≡ length (listing_lines list.now x) }
-    ensures output_after { output.new ≡ in_front (listing_lines list.now x) output.old }
+#[tactic(auto, unfolding(rules::specs::Answers::done))]
+fn put_listing(list: &[u32], tallies: Tallies, output: &mut [u8]) -> usize
+    requires { ListingSafe list.now output.old (tallied tallies) }
+    ensures value { result ≡ length (listing_lines list.now (tallied tallies)) }
+    ensures output_after { output.new ≡ in_front (listing_lines list.now (tallied tallies)) output.old }
 {
-    let at = put_entries(list, x.listed as usize, output);
+    let at = put_entries(list, tallies.listed, output);
     let done = Done {
-        listed: x.listed,
-        matches: x.matches,
-        widest: x.widest,
-        links: x.links,
+        listed: tallies.listed as u64,
+        matches: tallies.matches as u64,
+        widest: tallies.widest as u64,
+        links: tallies.links,
     };
     at + writers::write_done(done, &mut output[at..]).unwrap()
 }
@@ -91,14 +94,16 @@ pub fn answer_job(c: Settings, first: &[u8], second: &[u8], output: &mut [u8]) -
 {
     let mut work = [0u32; 4096];
     let mut list = [0u32; 2000];
-    let x = answers::answer(compare::compare(c, first, second, &mut work, &mut list));
-    if x.number != 0 {
-        let refused = Refused {
-            number: x.number,
-            sequence: x.sequence,
-            detail: x.detail,
-        };
-        return put_refused(refused, output);
+    match compare::compare(c, first, second, &mut work, &mut list) {
+        Ok(tallies) => put_listing(&list, tallies, output),
+        Err(refusal) => {
+            let (number, sequence, detail) = refusal.numbers();
+            let refused = Refused {
+                number,
+                sequence,
+                detail,
+            };
+            put_refused(refused, output)
+        }
     }
-    put_listing(&list, x, output)
 }
