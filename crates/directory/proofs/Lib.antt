@@ -1,3 +1,4 @@
+pub mod Between
 pub mod Buckets
 pub mod Lookups
 pub mod Neighbours

@@ -18,7 +18,7 @@ use Rattle.ownership.specs.Owners.{own_of}
 use Rattle.ownership.proofs.Hits.{hit_none, hit_at}
 use Rattle.ownership.proofs.Owns.{is_owner}
 use Rattle.index.specs.Keys.{Indexed}
-use Rattle.index.proofs.Between.{between, between_length, between_at, between_here}
+use Rattle.directory.proofs.Between.{between, between_length, between_at, between_here}
 use Rattle.directory.specs.Directory.{bucket_of, Rising, Bucketed, Reached, Lower}
 
 -- ---- where a code would stand, among the keys from begin to end

@@ -1,3 +1,2 @@
-pub mod Between
 pub mod Passes
 pub mod Unique

@@ -1,16 +1,15 @@
 -- An index turned run by run is the index of the codes read backwards. Assumes nothing.
 use mathlib.Core.Path.{◌≡◌, refl, sym, ap, subst, subst⁻¹, ◌∙◌}
-use mathlib.Core.List.{List, reverse}
+use mathlib.Core.List.{List, ◌++◌, reverse}
 use mathlib.Core.Logic.{◌⊎◌, inl, inr}
 use Prim.Native.Nat.{ℕ, zero, suc, ◌+◌, ◌-◌, ◌<◌, ◌≤◌}
 use native.Mathlib.Omega.{arith}
-use lib.ListN.{length, get_or}
-use Rattle.std.proofs.Common.{Bool, true, false, not, nat_eq, Some, None, add-zero}
-use Rattle.std.proofs.lemmas.List.Quantifiers.{position-Some}
-use Rattle.std.proofs.lemmas.Bool.Decides.{nat_tests}
-use Rattle.std.specs.Prelude.{position}
-use Rattle.std.specs.List.{position_or_len}
-use Rattle.std.proofs.lemmas.List.Sums.{fails_before_first}
+use lib.ListN.{length, get_or, take, drop, length-take, length-drop, length-append}
+use lib.Seq.{drop-append_seam}
+use borrow.Author.Tests.{eqb-true, eqb-false}
+use Rattle.std.proofs.Common.{true, false, nat_eq, add-zero, get_or-take}
+use Rattle.std.proofs.lemmas.List.{get_or-drop, drop-drop}
+use Rattle.std.specs.List.{IsChunkByPrefix}
 use Rattle.rules.specs.Codes.{code_at}
 use Rattle.rules.proofs.Tests.{Three, below, equal, above, three}
 use Rattle.requests.specs.Index.{kmer_places}
@@ -20,61 +19,51 @@ use Rattle.requests.proofs.Backwards.{code_back, kmers_back}
 use Rattle.order.proofs.Cases.{le_or_lt}
 use Rattle.ownership.specs.Owners.{Kept}
 use Rattle.index.specs.Keys.{Indexed}
-use Rattle.index.proofs.Between.{between, between_length, between_here}
 use Rattle.turning.specs.Turning.{RunTo, Within, RunTurned}
 
--- ---- the end of a run
+-- ---- a run: as many keys as are equal, of those that are left of the first n
 
--- whether a key is another
-abbrev pub differs : ℕ → ℕ → Bool
-differs key x = not (nat_eq x key)
+module _ (keys rest run rest' : List ℕ) (from n : ℕ) (room : n ≤ length keys) (upto : from ≤ n) (at : rest ≡ drop from (take n keys)) (cut : rest ≡ run ++ rest')
+    (some : 0 < length run) (prefix : IsChunkByPrefix nat_eq rest (length run)) where
+  abbrev size : ℕ
+  size = length run
 
-module _ (keys : List ℕ) (from n : ℕ) (some : from < n) (room : n ≤ length keys) where
-  abbrev key : ℕ
-  key = get_or keys from 0
+  rest_length : length rest ≡ n - from
+  rest_length = ap length at ∙ omega (arith, length-drop {A = ℕ}, length-take {A = ℕ})
 
-  abbrev left : List ℕ
-  left = between keys from n
+  within : size ≤ n - from
+  within = omega (arith, rest_length, ap length cut, length-append run rest')
 
-  left_length : length left ≡ n - from
-  left_length = between_length keys from n room
+  read : (j : ℕ) → j < n - from → get_or rest j 0 ≡ get_or keys (from + j) 0
+  read j h = ap (λ (l : List ℕ). get_or l j 0) at ∙ get_or-drop from (take n keys) j 0 ∙ get_or-take n keys (from + j) 0 (omega arith)
 
-  key_at : (q : ℕ) → from ≤ q → q < n → get_or left (q - from) 0 ≡ get_or keys q 0
-  key_at = between_here keys from n room
+  same : (j : ℕ) → j < size → get_or keys (from + j) 0 ≡ get_or keys from 0
+  same zero h = ap (λ (m : ℕ). get_or keys m 0) (add-zero from)
+  same (suc j) h =
+      let adjacent : nat_eq (get_or rest j 0) (get_or rest (j + 1) 0) ≡ true = prefix.0 j 0 (omega arith) in
+      let before = same j (omega arith) in
+      let one = read j (omega (arith, within)) in
+      let two = read (j + 1) (omega (arith, within)) in
+      let e : from + suc j ≡ from + (j + 1) = omega arith in
+      ap (λ (m : ℕ). get_or keys m 0) e ∙ sym two ∙ sym (eqb-true (get_or rest j 0) (get_or rest (j + 1) 0) adjacent) ∙ one ∙ before
 
-  same_key : (q : ℕ) → from ≤ q → q < n → differs key (get_or left (q - from) 0) ≡ false → get_or keys q 0 ≡ key
-  same_key q a b h = let e = key_at q a b in grind (arith, nat_tests)
-
-  other_key : (q : ℕ) → from ≤ q → q < n → differs key (get_or left (q - from) 0) ≡ true → get_or keys q 0 ≡ key → ⊥
-  other_key q a b h d = let e = key_at q a b in grind (arith, nat_tests)
-
-  -- the first key does not differ from itself
-  later : (i : ℕ) → (get_or keys (from + i) 0 ≡ key → ⊥) → from < from + i
-  later zero h = absurd (h (ap (λ (m : ℕ). get_or keys m 0) (add-zero from)))
-  later (suc i) h = omega arith
-
-  pub run_found : {i : ℕ} → position (differs key) left ≡ Some i → RunTo keys from n (from + i)
-  run_found {i} e =
-      let (inside, here, before) = position-Some (differs key) left i 0 e in
-      let l : i < n - from = omega (arith, left_length) in
-      let at : from + i - from ≡ i = omega arith in
-      let other : get_or keys (from + i) 0 ≡ key → ⊥ = other_key (from + i) (omega arith) (omega arith) (rw at here) in
+  pub run_of : RunTo keys from n (from + size)
+  run_of =
       record {
-        some = later i other;
-        upto = omega arith;
-        same = λ q a b. same_key q a (omega arith) (before (q - from) (omega arith));
-        other = λ _. other;
+        some = omega arith;
+        upto = omega (arith, within);
+        same = λ q a b. let e : from + (q - from) ≡ q = omega arith in ap (λ (m : ℕ). get_or keys m 0) (sym e) ∙ same (q - from) (omega arith);
+        other = λ l d.
+            let apart : nat_eq (get_or rest (size - 1) 0) (get_or rest size 0) ≡ false = prefix.1 (omega (arith, rest_length)) 0 in
+            let last = same (size - 1) (omega arith) in
+            let one = read (size - 1) (omega arith) in
+            let two = read size (omega arith) in
+            eqb-false (get_or rest (size - 1) 0) (get_or rest size 0) apart (one ∙ last ∙ sym d ∙ sym two);
       }
 
-  pub run_whole : position (differs key) left ≡ None → RunTo keys from n n
-  run_whole e =
-      let past : length left ≤ position_or_len (differs key) left = grind (arith, nat_tests) in
-      record {
-        some = some;
-        upto = omega arith;
-        same = λ q a b. same_key q a b (fails_before_first (differs key) left (q - from) 0 (omega (arith, left_length)));
-        other = λ l. absurd (omega arith);
-      }
+  pub run_left : rest' ≡ drop (from + size) (take n keys)
+  run_left =
+      sym (drop-append_seam run rest') ∙ ap (drop size) (sym cut ∙ at) ∙ drop-drop size from (take n keys)
 
 -- ---- a run turned, up to index q
 

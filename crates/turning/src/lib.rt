@@ -19,19 +19,6 @@ pub fn reverse_codes(codes: &[u64], out: &mut [u64])
     }
 }
 
-// Where the run of keys that begins here ends, among the first n: a turn a key.
-fn run_end(keys: &[u64], from: usize, n: usize) -> usize
-    requires from_lt_n { from < n }
-    requires n_in_bounds { n ≤ length keys.now }
-    ensures { RunTo keys.now from n result }
-{
-    let key = keys[from];
-    match keys[from..n].iter().position(|other| *other != key) {
-        Some(length) => from + length,
-        None => n,
-    }
-}
-
 // The places of a run as they count from the last of so many columns, the last first: a turn a place.
 fn turn_run(index: &[u32], from: usize, to: usize, columns: u32, out: &mut [u32])
     requires from_le_to { from ≤ to }
@@ -54,9 +41,8 @@ pub fn turn_index(lookup: Lookup, out: &mut [u32])
 {
     let columns = lookup.codes.len() as u32;
     let mut from: usize = 0;
-    // kept: a turn takes a whole run, so no range counts it
-    while from < lookup.places {
-        let to = run_end(lookup.keys, from, lookup.places);
+    for run in lookup.keys[..lookup.places].chunk_by(|key, next| key == next) {
+        let to = from + run.len();
         turn_run(lookup.index, from, to, columns, out);
         from = to;
     }
