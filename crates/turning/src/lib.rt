@@ -5,7 +5,7 @@
 ghost use Rattle.std.specs.Prelude.{◌≡◌, ◌++◌, reverse, ◌≤◌, ◌<◌, length, drop};
 ghost use Rattle.index.specs.Keys.{Indexed};
 ghost use Rattle.ownership.specs.Owners.{Kept};
-ghost use Rattle.turning.specs.Turning.{RunTo, Within, RunTurned};
+ghost use Rattle.turning.specs.Turning.{Within, RunTurned};
 
 use index::Lookup;
 
