@@ -74,7 +74,7 @@ fn decode(line: &[u8], bytes: &mut [u8]) -> Decoded
     Decoded { count, sum }
 }
 
-// What a line holds: its kind and how many bytes of payload.
+// What a line holds: its kind, which is any byte until 23 has been looked for, and how many bytes of payload.
 #[derive(Clone, Copy, Debug, PartialEq, Eq)]
 pub struct Frame {
     pub kind: u8,

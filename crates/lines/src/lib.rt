@@ -86,6 +86,7 @@ fn put_bytes(bytes: &[u8], out: &mut [u8], at: usize)
 }
 
 // Writes a frame's line and gives its length with its line feed. A line has at most 64 bytes of payload.
+// kept: the kind is any byte, as docs/MAP.md names this function: a Kind would ask more of callers.
 pub fn write_line(kind: u8, payload: &[u8], out: &mut [u8]) -> Result<usize, FrameError>
     ensures value { written_of result ≡ written (nat_le (length payload.now) 64) (line_of kind payload.now) out.old }
     ensures out_after { out.new ≡ leaves (nat_le (length payload.now) 64) (line_of kind payload.now) out.old }

@@ -160,3 +160,7 @@ codes_parts codes h =
       few = leb-true (length codes) 128 (and_right a b ab);
       are = and_right (a && b) (all_codes codes) h;
     }
+
+-- a piece that fits has at most 64 bytes
+pub few_bytes : (codes : List ℕ) → codes_fit codes ≡ true → length (code_bytes codes) ≤ 64
+few_bytes codes h = omega (arith, (codes_parts codes h).few, (packed_length codes).1)

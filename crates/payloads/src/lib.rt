@@ -72,7 +72,7 @@ pub fn pack(codes: &[u8], payload: &mut [u8]) -> usize
 }
 
 // Reads a line that is to have a kind and so many bytes of payload.
-// kept: any slice of 67 bytes or more, as docs/MAP.md names this function: a [u8; 67] would ask more of callers.
+// kept: any slice of 67 bytes or more and any byte as kind, as docs/MAP.md names this function: a [u8; 67] or a Kind would ask more of callers.
 pub fn read_kind(line: &[u8], kind: u8, size: usize, bytes: &mut [u8]) -> Result<(), FrameError>
     requires { 67 ≤ length bytes.old }
     ensures value { number_in result ≡ kind_number kind size line.now }

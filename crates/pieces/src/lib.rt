@@ -75,6 +75,7 @@ fn put_letters(payload: &[u8], letters: &mut [u8], at: usize)
 }
 
 // A piece goes behind the letters that its sequence has. Gives how many the sequence has then.
+// kept: a lent room and how many letters it has, as docs/MAP.md names this function: a type of both would ask more of callers.
 pub fn take_piece(payload: &[u8], letters: &mut [u8], count: usize) -> Result<usize, FrameError>
     requires count_bound { count ≤ 16384 }
     requires in_bounds { 16384 ≤ length letters.old }

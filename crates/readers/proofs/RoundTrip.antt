@@ -24,7 +24,7 @@ use Rattle.kinds.specs.Carried.{Carries}
 use Rattle.kinds.specs.Laws.{entry_bytes, entry_carries, done_carries, refused_carries}
 use Rattle.readers.specs.Readers.{EntryRead, DoneRead, RefusedRead, strand_in, job_in, read_entry_of, read_entry, read_reverse, read_done, read_refused}
 use Rattle.payloads.proofs.Numbers.{number_back}
-use Rattle.payloads.proofs.Pieces.{codes_parts, packed_length, packed_are_bytes, codes_back}
+use Rattle.payloads.proofs.Pieces.{codes_parts, few_bytes, packed_are_bytes, codes_back}
 use Rattle.kinds.proofs.Jobs.{job_bytes, JobForm, forward, stranded, job_form, job_few, job_are_bytes}
 
 -- a line has the kind and the size that it was written with
@@ -109,8 +109,8 @@ piece_unique s x t y l m h g e =
     let q = codes_parts y g in
     let a : 1 + s < 256 = omega arith in
     let b : 1 + t < 256 = omega arith in
-    let c : length (code_bytes x) ≤ 64 = omega (arith, p.few, (packed_length x).1) in
-    let d : length (code_bytes y) ≤ 64 = omega (arith, q.few, (packed_length y).1) in
+    let c = few_bytes x h in
+    let d = few_bytes y g in
     let u = line_unique (1 + s) (code_bytes x) (1 + t) (code_bytes y) a c (packed_are_bytes x p.are) b d (packed_are_bytes y q.are) e in
     (omega (arith, u.0), sym (piece_codes x h) ∙ ap codes_in u.1 ∙ piece_codes y g)
 
