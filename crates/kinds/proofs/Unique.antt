@@ -25,7 +25,7 @@ kind_back Refused = refl
 pub one_kind : (k l : Kind) → kind_byte k ≡ kind_byte l → k ≡ l
 one_kind k l h = sym (kind_back k) ∙ ap kind_of h ∙ kind_back l
 
--- any two results of `Kind::try_from` are equal
+-- any two results of `kinds::Kind::try_from` are equal
 pub one_try : (n : ℕ) (r s : Result Kind FrameError) → IsKind n r → IsKind n s → r ≡ s
 one_try n (Ok k) (Ok l) h g = ap Ok (one_kind k l (h ∙ sym g))
 one_try n (Ok k) (Err e) h g = absurd (g.1 k h)
