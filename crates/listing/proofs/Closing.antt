@@ -19,7 +19,7 @@ use Rattle.rules.specs.Listing.{first_span, second_span, long_enough, closed, is
 use Rattle.rules.proofs.Tests.{tests, same_test, T_and, T_leb, tested, T_true, T_false, Three, below, equal, above, three}
 use Rattle.rules.proofs.LeftExtensions.{extend_facts, not_self, not_after, after_extends}
 use Rattle.rules.proofs.Listings.{any_has, any_some}
-use Rattle.predecessors.specs.declared.Ring.{Ring}
+use Rattle.predecessors.specs.declared.ring.Ring.{Ring}
 use Rattle.predecessors.specs.Numbers.{nth}
 use Rattle.listing.specs.Leaving.{later_in, some_from, passes, ReleaseAsks}
 

@@ -22,7 +22,7 @@ use Rattle.records.specs.Layout.{record_in}
 use Rattle.entries.specs.Layout.{entry_in32, put_entry}
 use Rattle.records.proofs.Slots.{holds_record}
 use Rattle.entries.proofs.Fitting.{entry_fits_lem}
-use Rattle.predecessors.specs.declared.Ring.{Ring}
+use Rattle.predecessors.specs.declared.ring.Ring.{Ring}
 use Rattle.predecessors.specs.Numbers.{slot_of, nothing, nth}
 use Rattle.predecessors.specs.Index.{InRoom}
 use Rattle.predecessors.proofs.Steps.{rows_sorted}

@@ -9,7 +9,7 @@ use Rattle.rules.specs.declared.Settings.{Settings}
 use Rattle.rules.specs.declared.Cell.{Cell}
 use Rattle.rules.specs.declared.Record.{Record}
 use Rattle.rules.proofs.Tests.{Three, below, equal, above, three}
-use Rattle.predecessors.specs.declared.Ring.{Ring}
+use Rattle.predecessors.specs.declared.ring.Ring.{Ring}
 use Rattle.rows.specs.Machine.{Machine}
 use Rattle.listing.specs.declared.Released.{Released}
 use Rattle.listing.specs.Leaving.{ListedTo, ReleaseAsks, ReleaseDone}

@@ -8,7 +8,7 @@ use Rattle.rules.specs.Lists.{keep, laid}
 use Rattle.rules.specs.Listing.{long_enough, is_listed, entry_numbers}
 use Rattle.rules.specs.Rooms.{list_holds}
 use Rattle.entries.specs.Layout.{put_entry}
-use Rattle.predecessors.specs.declared.Ring.{Ring}
+use Rattle.predecessors.specs.declared.ring.Ring.{Ring}
 use Rattle.predecessors.specs.Numbers.{RingFits, nth}
 use Rattle.predecessors.specs.Index.{Sorted}
 use Rattle.rows.specs.Machine.{Machine}

@@ -19,7 +19,7 @@ use Rattle.rules.proofs.ListLaws.{mem_at}
 use Rattle.rules.proofs.Ties.{Under}
 use Rattle.records.specs.Layout.{record_in}
 use Rattle.records.proofs.Slots.{holds_record}
-use Rattle.predecessors.specs.declared.Ring.{Ring}
+use Rattle.predecessors.specs.declared.ring.Ring.{Ring}
 use Rattle.predecessors.specs.Numbers.{slot_of, numbered, nothing, nth}
 use Rattle.predecessors.specs.Index.{Known, Sorted, Nearest, no_near, has_near, Ready, Found}
 use Rattle.predecessors.proofs.Walks.{Near, Walk, beyond, best_is, is_near, walk_none, walk_near, walk_skip, walk_take, walk_end, walk_stop}
@@ -38,6 +38,29 @@ pub numbered_some : (room : List ℕ) (ring : Ring) (n : ℕ) → (n ≡ 0 → �
 unfolding numbered
 numbered_some room ring n h = rw (ne_eqb n 0 h)
 
+-- with no match on the left, the walk begins with none and goes down to the window's end
+pub cond_none : (lo : ℕ) → lo - 1 ≡ cond (leb lo 0) 0 (lo - 1)
+cond_none lo = go (three lo 0)
+  where
+    go : Three lo 0 → lo - 1 ≡ cond (leb lo 0) 0 (lo - 1)
+    go (below h) = absurd (omega arith)
+    go (equal e) = rw (le-leb lo 0 (omega arith)) (omega arith)
+    go (above h) = cond_no lo 0 0 (lo - 1) h
+
+pub cond_zero : (lo x : ℕ) → x ≡ cond (leb lo 0) x x
+cond_zero lo x = go (three lo 0)
+  where
+    go : Three lo 0 → x ≡ cond (leb lo 0) x x
+    go (below h) = absurd (omega arith)
+    go (equal e) = cond_yes lo 0 x x (omega arith)
+    go (above h) = cond_no lo 0 x x h
+
+-- a record by its number
+pub numbered_at : (room : List ℕ) (ring : Ring) (g : ℕ) → numbered room ring (g + 1) ≡ some (record_in room (slot_of ring g))
+numbered_at room ring g =
+    let e : g + 1 - 1 ≡ g = omega arith in
+    numbered_some room ring (g + 1) (λ z. omega arith) ∙ ap (λ (n : ℕ). some (record_in room (slot_of ring n))) e
+
 better_yes : (x y : Record) → beats x y ≡ true → better (some y) x ≡ some x
 unfolding better
 better_yes x y e = rw e
@@ -47,17 +70,17 @@ unfolding better
 better_no x y e = rw e
 
 -- the preferred one of two
-module _ (room : List ℕ) (ring : Ring) (best s : ℕ) where
-  pub weigh_first : best ≡ 0 → 1 ≤ s → numbered room ring s ≡ better (numbered room ring best) (record_in room (slot_of ring (s - 1)))
-  unfolding better numbered
-  weigh_first e h = rw (e, ne_eqb s 0 (λ k. omega arith))
+module _ (room : List ℕ) (ring : Ring) (g : ℕ) where
+  pub weigh_first : numbered room ring (g + 1) ≡ better (numbered room ring 0) (record_in room (slot_of ring g))
+  unfolding better
+  weigh_first = rw (numbered_at room ring g, numbered_none room ring)
 
-  module _ (x y : Record) (ex : x ≡ record_in room (slot_of ring (s - 1))) (ey : y ≡ record_in room (slot_of ring (best - 1))) where
-    pub weigh_new : (best ≡ 0 → ⊥) → 1 ≤ s → beats x y ≡ true → numbered room ring s ≡ better (numbered room ring best) (record_in room (slot_of ring (s - 1)))
-    weigh_new n h e = numbered_some room ring s (λ k. omega arith) ∙ sym (rw (numbered_some room ring best n, ← ex, ← ey) (better_yes x y e))
+  module _ (h : ℕ) (x y : Record) (ex : x ≡ record_in room (slot_of ring g)) (ey : y ≡ record_in room (slot_of ring h)) where
+    pub weigh_new : beats x y ≡ true → numbered room ring (g + 1) ≡ better (numbered room ring (h + 1)) (record_in room (slot_of ring g))
+    weigh_new e = numbered_at room ring g ∙ sym (rw (numbered_at room ring h, ← ex, ← ey) (better_yes x y e))
 
-    pub weigh_old : (best ≡ 0 → ⊥) → beats x y ≡ false → numbered room ring best ≡ better (numbered room ring best) (record_in room (slot_of ring (s - 1)))
-    weigh_old n e = numbered_some room ring best n ∙ sym (rw (numbered_some room ring best n, ← ex, ← ey) (better_no x y e))
+    pub weigh_old : beats x y ≡ false → numbered room ring (h + 1) ≡ better (numbered room ring (h + 1)) (record_in room (slot_of ring g))
+    weigh_old e = numbered_at room ring h ∙ sym (rw (numbered_at room ring h, ← ex, ← ey) (better_no x y e))
 
 -- members by number
 pub mem_nth : (all : List Record) (g : ℕ) → g < length all → Memᴰ (nth all g) all

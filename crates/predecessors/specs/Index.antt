@@ -9,7 +9,7 @@ use Rattle.rules.specs.Chains.{Heaviest}
 use Rattle.rules.specs.Records.{pick}
 use Rattle.rules.specs.Listing.{Before}
 use Rattle.records.specs.Layout.{Holds}
-use Rattle.predecessors.specs.declared.Ring.{Ring}
+use Rattle.predecessors.specs.declared.ring.Ring.{Ring}
 use Rattle.predecessors.specs.Numbers.{RingFits, slot_of, numbered, nth}
 
 -- a cell has one record

@@ -4,7 +4,7 @@ use Rattle.std.proofs.Math.Option.{Option, none, some}
 use Rattle.rules.specs.declared.Record.{Record}
 use Rattle.rules.specs.Matches.{cell}
 use Rattle.records.specs.Layout.{record_in}
-use Rattle.predecessors.specs.declared.Ring.{Ring}
+use Rattle.predecessors.specs.declared.ring.Ring.{Ring}
 
 -- a ring has a slot at least, begins in one of its slots, and is small enough that no sum of slots wraps
 pub record RingFits (ring : Ring) : Type 0 where

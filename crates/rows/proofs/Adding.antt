@@ -13,7 +13,7 @@ use Rattle.rules.proofs.Weights.{Sure, pick_sure}
 use Rattle.rules.proofs.Starts.{record_cell}
 use Rattle.records.specs.Layout.{record_in, Holds, put_record}
 use Rattle.records.proofs.Slots.{put_same, put_other}
-use Rattle.predecessors.specs.declared.Ring.{Ring}
+use Rattle.predecessors.specs.declared.ring.Ring.{Ring}
 use Rattle.predecessors.specs.Numbers.{slot_of, numbered, nothing, nth}
 use Rattle.predecessors.specs.Index.{InRoom, Ready, Found}
 use Rattle.predecessors.proofs.Steps.{numbered_none, numbered_some}

@@ -9,7 +9,7 @@ use Rattle.rules.proofs.Tests.{Three, below, equal, above, three}
 use Rattle.rules.proofs.Starts.{record_cell}
 use Rattle.rules.proofs.Sweeps.{swept_to, swept_hit, swept_miss}
 use Rattle.matches.specs.Walks.{NextMatch, none_left, next_is, RowWalk}
-use Rattle.predecessors.specs.declared.Ring.{Ring}
+use Rattle.predecessors.specs.declared.ring.Ring.{Ring}
 use Rattle.predecessors.specs.Numbers.{nth}
 use Rattle.predecessors.specs.Index.{Nearest, has_near, Ready}
 use Rattle.predecessors.proofs.Steps.{mem_nth}

@@ -6,7 +6,7 @@ use Rattle.rules.specs.declared.Cell.{Cell}
 use Rattle.rules.specs.declared.Record.{Record}
 use Rattle.rules.specs.Matches.{cell}
 use Rattle.rules.specs.Records.{record_of}
-use Rattle.predecessors.specs.declared.Ring.{Ring}
+use Rattle.predecessors.specs.declared.ring.Ring.{Ring}
 use Rattle.predecessors.specs.Numbers.{RingFits, nth}
 use Rattle.predecessors.specs.Index.{InRoom, Columns, Ready}
 

@@ -4,7 +4,7 @@ use Rattle.rules.specs.declared.Cell.{Cell}
 use Rattle.rules.specs.declared.Record.{Record}
 use Rattle.rules.proofs.Sweeps.{swept_to}
 use Rattle.matches.specs.Walks.{NextMatch, RowWalk}
-use Rattle.predecessors.specs.declared.Ring.{Ring}
+use Rattle.predecessors.specs.declared.ring.Ring.{Ring}
 use Rattle.predecessors.specs.Numbers.{RingFits, nth}
 use Rattle.predecessors.specs.Index.{Nearest}
 use Rattle.rows.specs.Machine.{Machine}

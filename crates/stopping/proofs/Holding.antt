@@ -14,7 +14,7 @@ use Rattle.rules.specs.Rooms.{record_numbers, largest_run}
 use Rattle.rules.proofs.Tests.{Three, below, equal, above, three}
 use Rattle.matches.specs.Walks.{walks_to, walked_to, walked, walked_need, WalkSafe, Described}
 use Rattle.matches.proofs.Walked.{safe_described, described_same}
-use Rattle.predecessors.specs.declared.Ring.{Ring}
+use Rattle.predecessors.specs.declared.ring.Ring.{Ring}
 use Rattle.predecessors.specs.Numbers.{slot_of}
 use Rattle.sweep.specs.Sweeping.{SweepSafe, run_of, HoldsRun}
 use Rattle.strands.specs.Strands.{Walked}

@@ -6,7 +6,7 @@ use Rattle.rules.specs.Lists.{laid, then_zeros}
 use Rattle.rules.specs.Rooms.{record_numbers, largest_run, pairs}
 use Rattle.rules.specs.Answers.{Outcome, stopping}
 use Rattle.matches.specs.Walks.{walked}
-use Rattle.predecessors.specs.declared.Ring.{Ring}
+use Rattle.predecessors.specs.declared.ring.Ring.{Ring}
 use Rattle.predecessors.specs.Numbers.{RingFits, slot_of}
 use Rattle.sweep.specs.Sweeping.{run_of}
 

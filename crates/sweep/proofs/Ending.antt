@@ -21,7 +21,7 @@ use Rattle.rules.proofs.MatchList.{matches_in}
 use Rattle.rules.proofs.Sweeps.{swept_to, swept_all, matches_split}
 use Rattle.matches.specs.Walks.{walks_to, walked_to, walked, walked_need, WalkSafe}
 use Rattle.matches.proofs.Walked.{safe_described}
-use Rattle.predecessors.specs.declared.Ring.{Ring}
+use Rattle.predecessors.specs.declared.ring.Ring.{Ring}
 use Rattle.predecessors.specs.Numbers.{RingFits, slot_of, nothing, nth}
 use Rattle.predecessors.proofs.Steps.{mem_nth, nth_mem}
 use Rattle.predecessors.proofs.Swept.{nth_cell, swept_place}

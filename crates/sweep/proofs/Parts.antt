@@ -18,7 +18,7 @@ use Rattle.rules.specs.Rooms.{in_run, largest_run}
 use Rattle.rules.proofs.Tests.{tests, by_test, Three, below, equal, above, three}
 use Rattle.rules.proofs.Starts.{record_cell}
 use Rattle.rules.proofs.Sweeps.{swept_to, swept_hit, swept_miss, window_to, window_fits}
-use Rattle.predecessors.specs.declared.Ring.{Ring}
+use Rattle.predecessors.specs.declared.ring.Ring.{Ring}
 use Rattle.predecessors.specs.Numbers.{nothing, nth}
 use Rattle.predecessors.proofs.Steps.{mem_nth}
 use Rattle.predecessors.proofs.Swept.{swept_place}

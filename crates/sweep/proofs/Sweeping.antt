@@ -20,7 +20,7 @@ use Rattle.rules.proofs.Weights.{sweep_cells}
 use Rattle.rules.proofs.MatchList.{Inside, matches_in, matches_has}
 use Rattle.rules.proofs.Sweeps.{swept_to, swept_start, swept_row, swept_all}
 use Rattle.matches.specs.Walks.{NextMatch, none_left, next_is, RowWalk}
-use Rattle.predecessors.specs.declared.Ring.{Ring}
+use Rattle.predecessors.specs.declared.ring.Ring.{Ring}
 use Rattle.predecessors.specs.Numbers.{nth}
 use Rattle.predecessors.specs.Index.{no_near}
 use Rattle.predecessors.proofs.Steps.{mem_nth, nth_mem}

@@ -9,7 +9,7 @@ use Rattle.rules.specs.Records.{records_from}
 use Rattle.rules.specs.Rooms.{record_numbers, in_run, largest_run}
 use Rattle.rules.proofs.Sweeps.{swept_to}
 use Rattle.matches.specs.Walks.{walked, WalkSafe, Described}
-use Rattle.predecessors.specs.declared.Ring.{Ring}
+use Rattle.predecessors.specs.declared.ring.Ring.{Ring}
 use Rattle.predecessors.specs.Numbers.{RingFits}
 use Rattle.rows.specs.Machine.{Machine}
 use Rattle.listing.specs.Leaving.{ListedTo}
