@@ -16,7 +16,7 @@ use Rattle.records.proofs.Slots.{put_same, put_other}
 use Rattle.predecessors.specs.declared.ring.Ring.{Ring}
 use Rattle.predecessors.specs.Numbers.{slot_of, numbered, nothing, nth}
 use Rattle.predecessors.specs.Index.{InRoom, Ready, Found}
-use Rattle.predecessors.proofs.Steps.{numbered_none, numbered_some}
+use Rattle.predecessors.proofs.Steps.{numbered_none, numbered_at}
 use Rattle.rows.specs.Machine.{Machine, next_record, Light, AddSafe, Added}
 
 -- ---- slots
@@ -136,17 +136,14 @@ module _ (b i : ℕ) (all : List Record) (room latest : List ℕ) (ring : Ring) 
 
 -- ---- the record of the next match
 
--- ---- the record of the next match
-
-pub next_none : (room : List ℕ) (ring : Ring) (p : ℕ) (c : Cell) → p ≡ 0 → record { cell = c; weight = 1; start = c } ≡ next_record c (numbered room ring p)
+pub next_none : (room : List ℕ) (ring : Ring) (c : Cell) → record { cell = c; weight = 1; start = c } ≡ next_record c (numbered room ring 0)
 unfolding next_record
-next_none room ring p c e = rw (e, numbered_none room ring)
+next_none room ring c = rw (numbered_none room ring)
 
-pub next_some : (room : List ℕ) (ring : Ring) (p : ℕ) (c : Cell) (x : Record) (w : ℕ) → (p ≡ 0 → ⊥) → x ≡ record_in room (slot_of ring (p - 1))
-    → w ≡ (x.weight + 1) % 2 ^ 32
-    → record { cell = c; weight = w; start = x.start } ≡ next_record c (numbered room ring p)
+pub next_some : (room : List ℕ) (ring : Ring) (g : ℕ) (c : Cell) (x : Record) → x ≡ record_in room (slot_of ring g)
+    → record { cell = c; weight = (x.weight + 1) % 2 ^ 32; start = x.start } ≡ next_record c (numbered room ring (g + 1))
 unfolding next_record
-next_some room ring p c x w h e f = rw (numbered_some room ring p h, ← e, f)
+next_some room ring g c x e = rw (numbered_at room ring g, ← e)
 
 next_after : (c : Cell) (o : Option Record) → Sure (λ x. x.weight + 1 < 2 ^ 32) o → next_record c o ≡ record_after c o
 unfolding next_record record_after
@@ -185,20 +182,3 @@ module _ (b i j : ℕ) (room latest : List ℕ) (ring : Ring) (tail head near co
           let d2 : Machine b i (all ++ (x ∷ [])) (put_record room (slot_of ring head) x) (set latest j (head + 1)) ring tail =
           subst (λ (t : ℕ). Machine b i (all ++ (x ∷ [])) (put_record room (slot_of ring t) x) (set latest j (t + 1)) ring tail) e d1 in
           rw (one_more all r l) d2
-
--- what the two ways of storing leave
-module _ (room new : List ℕ) (ring : Ring) (head p : ℕ) (c : Cell) (t : ℕ) (et : t ≡ slot_of ring (head + 1 - 1)) where
-  slot_is : t ≡ slot_of ring head
-  slot_is = et ∙ ap (slot_of ring) (omega arith)
-
-  pub store_none : p ≡ 0 → new ≡ put_record room t (record { cell = c; weight = 1; start = c })
-      → new ≡ put_record room (slot_of ring head) (next_record c (numbered room ring p))
-  store_none e f = f ∙ ap (λ (n : ℕ). put_record room n (record { cell = c; weight = 1; start = c })) slot_is
-      ∙ ap (put_record room (slot_of ring head)) (next_none room ring p c e)
-
-  pub store_some : (x : Record) (w : ℕ) → (p ≡ 0 → ⊥) → x ≡ record_in room (slot_of ring (p - 1)) → w ≡ (x.weight + 1) % 2 ^ 32
-      → new ≡ put_record room t (record { cell = c; weight = w; start = x.start })
-      → new ≡ put_record room (slot_of ring head) (next_record c (numbered room ring p))
-  store_some x w h e g f =
-      f ∙ ap (λ (n : ℕ). put_record room n (record { cell = c; weight = w; start = x.start })) slot_is
-      ∙ ap (put_record room (slot_of ring head)) (next_some room ring p c x w h e g)

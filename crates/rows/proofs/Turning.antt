@@ -1,5 +1,5 @@
 -- A row turn by turn: from match to next match the sweep has one record more, and columns with no match add nothing. Assumes nothing.
-use Rattle.std.proofs.Common.{◌≡◌, ℕ, zero, suc, ◌+◌, ◌-◌, ◌^◌, ◌<◌, ◌≤◌, Bool, true, false, cond, eqb, List, [], ◌∷◌, ◌++◌, length, get_or, sym, refl, ap, ◌∙◌, subst, le_refl, arith, eq-eqb, ne_eqb}
+use Rattle.std.proofs.Common.{◌≡◌, ℕ, zero, suc, ◌+◌, ◌-◌, ◌^◌, ◌<◌, ◌≤◌, Bool, true, false, List, [], ◌∷◌, ◌++◌, length, get_or, sym, refl, ap, ◌∙◌, subst, le_refl, arith}
 use native.Mathlib.Decide.{le_ind}
 use Rattle.rules.specs.declared.Cell.{Cell}
 use Rattle.rules.specs.declared.Record.{Record}
@@ -251,16 +251,3 @@ module _ {b i : ℕ} {room₀ latest₀ nexts : List ℕ} {ring : Ring} {tail he
             let u = v.state hit columns k ei l f w in
             let o = row_over b hit columns k room latest ring tail head near column from j u f e in
             rw o (u.machine, u.counted)
-
--- the measure of the row's loop: columns to come
-unfoldable pub to_come : ℕ → ℕ → ℕ
-to_come len j = cond (eqb j 0) 0 (len - j)
-
-pub come_less : (len j p : ℕ) → (j ≡ 0 → ⊥) → j < len → p < len → (1 ≤ p → j < p) → to_come len p < to_come len j
-unfolding to_come
-come_less len j p nz lj lp f = go (three p 0)
-  where
-    go : Three p 0 → cond (eqb p 0) 0 (len - p) < cond (eqb j 0) 0 (len - j)
-    go (below h) = absurd (omega arith)
-    go (equal h) = rw (eq-eqb p 0 h, ne_eqb j 0 nz) (omega arith)
-    go (above h) = let a = f h in rw (ne_eqb p 0 (λ z. omega arith), ne_eqb j 0 nz) (omega arith)

@@ -1,17 +1,16 @@
-use Rattle.std.proofs.Common.{◌-◌, length, arith}
-use Rattle.rows.proofs.Turning.{row_next, row_end, come_less}
+use Rattle.std.proofs.Common.{◌∙◌, arith}
+use Rattle.rows.proofs.Turning.{row_next, row_end}
 use Rattle.rows.proofs.store_row.Goals as goal
-
-pub loop-j-smaller : goal.loop-j-smaller
-loop-j-smaller c =
-    rw c.wide-j.ensures.0 (come_less (length c.args.latest.now) c.loop-j.j _ c.loop-j-test.true c.loop-j.invariant.in_j (c.requires.inside (c.loop-j.j - 1))
-    (λ h. let u = c.requires.rising (c.loop-j.j - 1) h in omega arith))
 
 pub loop-j-preserved : goal.loop-j-preserved
 loop-j-preserved c =
-    rw c.wide-j.ensures.0
-    (row_next c.requires c.loop-j.invariant c.loop-j-test.true c.add.auto.room c.add.auto.latest c.add.ensures)
+    let v = c.loop-j.invariant in
+    let e = c.in-Some.ensures.steps in
+    record {
+      steps = e.0 ∙ v.steps;
+      stored = rw (e.1.2, e.1.0, v.steps) (row_next c.requires v.stored (λ z. omega arith) c.add.auto.room c.add.auto.latest (rw e.1.0 at c.add.ensures));
+    }
 
 pub returns : goal.returns
 returns c =
-    row_end c.requires c.loop-j.invariant (omega arith)
+    row_end c.requires c.loop-j.invariant.stored c.in-None.ensures.steps.1
