@@ -4,7 +4,7 @@ use mathlib.Core.Path.{◌≡◌, refl, ap, subst, subst⁻¹}
 use mathlib.Core.Logic.{◌⊎◌, inl, inr}
 use mathlib.Core.Bool.{Bool, true, false, ◌&&◌, ◌||◌, not}
 use mathlib.Core.List.{List}
-use Prim.Native.Nat.{ℕ, zero, suc, ◌+◌, ◌-◌, ◌≤◌, ◌<◌}
+use Prim.Native.Nat.{ℕ, zero, suc, ◌+◌, ◌-◌, ◌≤◌, ◌<◌, min}
 use native.Mathlib.Omega.{arith}
 use native.Mathlib.Numerals.{add-one}
 use borrow.Author.Tests.{le-leb, le-ltb}
@@ -76,21 +76,18 @@ module _ (latest : List ℕ) (t : ℕ) (x : Record) (c : Settings) where
   abbrev second : ℕ
   second = second_span c.k x.start x.cell
 
-  pub first_short : first < c.m → passes latest t x c ≡ false
+  pub short_fails : {s : ℕ} → s ≡ min first second → s < c.m → passes latest t x c ≡ false
   unfolding passes long_enough
-  first_short h = T_false (not goes && (leb c.m first && leb c.m second)) (λ u. let v = simp (T_and, T_leb) at u in omega (arith, v.1.0))
+  short_fails e h = T_false (not goes && (leb c.m first && leb c.m second)) (λ u. let v = simp (T_and, T_leb) at u in omega (arith, v.1.0, v.1.1))
 
-  pub second_short : second < c.m → passes latest t x c ≡ false
+  pub long_passes : {s : ℕ} → s ≡ min first second → c.m ≤ s → not goes ≡ passes latest t x c
   unfolding passes long_enough
-  second_short h = T_false (not goes && (leb c.m first && leb c.m second)) (λ u. let v = simp (T_and, T_leb) at u in omega (arith, v.1.1))
-
-  pub goes_on : goes ≡ true → passes latest t x c ≡ false
-  unfolding passes
-  goes_on e = rw e
-
-  pub all_pass : goes ≡ false → c.m ≤ first → c.m ≤ second → passes latest t x c ≡ true
-  unfolding passes long_enough
-  all_pass e h g = rw (e, le-leb c.m first h, le-leb c.m second g)
+  long_passes e h =
+      rw (le-leb c.m first (omega arith), le-leb c.m second (omega arith)) (go goes)
+    where
+      go : (b : Bool) → not b ≡ not b && true
+      go true = refl
+      go false = refl
 
 -- ---- and that is the rule
 

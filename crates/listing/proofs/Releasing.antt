@@ -2,7 +2,7 @@
 use mathlib.Core.Path.{◌≡◌, refl, sym, ap, subst⁻¹, ◌∙◌}
 use mathlib.Core.Bool.{Bool, true, false, cond}
 use mathlib.Core.List.{List, [], ◌∷◌, ◌++◌, append-nil}
-use Prim.Native.Nat.{ℕ, ◌+◌, ◌-◌, ◌*◌, ◌/◌, ◌^◌, ◌≤◌, ◌<◌}
+use Prim.Native.Nat.{ℕ, ◌+◌, ◌*◌, ◌/◌, ◌^◌, ◌≤◌, ◌<◌}
 use native.Mathlib.Omega.{arith}
 use native.Mathlib.Nat.{le_refl}
 use native.Mathlib.Numerals.{add-one}
@@ -130,11 +130,11 @@ module _ {c : Settings} {i : ℕ} {room latest : List ℕ} {ring : Ring} {tail h
 
   module _ {t : ℕ} {list : List ℕ} {n : ℕ} (v : Releasing c i room latest ring tail head list₀ listed₀ t list n) where
     -- what is read of record t is record t
-    read_is : (all : List Record) → InRoom all room ring tail → length all ≡ head → t < head → (x : Record) (slot : ℕ) → slot ≡ slot_of ring (t + 1 - 1)
+    read_is : (all : List Record) → InRoom all room ring tail → length all ≡ head → t < head → (x : Record) (slot : ℕ) → slot ≡ slot_of ring t
         → x ≡ record_in room slot → x ≡ nth all t
     read_is all r e h x slot es ex =
         let f = v.from in
-        ex ∙ ap (record_in room) (es ∙ ap (slot_of ring) (omega arith)) ∙ holds_record room (slot_of ring t) (nth all t) (r t f (omega arith))
+        ex ∙ ap (record_in room) es ∙ holds_record room (slot_of ring t) (nth all t) (r t f (omega arith))
 
     done : t ≤ head → ((k : ℕ) (all : List Record) (cells : List Cell) → ReleaseAsks c i k all cells room latest ring tail head
         → (g : ℕ) → t ≤ g → g < length all → i ≤ (nth all g).cell.row + c.b)
@@ -166,7 +166,7 @@ module _ {c : Settings} {i : ℕ} {room latest : List ℕ} {ring : Ring} {tail h
             older g q l (above z) = v.old all a.machine.stored a.counted g (omega arith) q
 
     -- record t is still of the run
-    pub released_here : t < head → {x : Record} {slot : ℕ} → slot ≡ slot_of ring (t + 1 - 1) → x ≡ record_in room slot → i ≤ x.cell.row + c.b
+    pub released_here : t < head → {x : Record} {slot : ℕ} → slot ≡ slot_of ring t → x ≡ record_in room slot → i ≤ x.cell.row + c.b
         → ReleaseDone c i room latest ring tail head list₀ listed₀ list (record { tail = t; listed = n })
     released_here h {x} {slot} es ex l =
         done (omega arith) (λ k all cells a g q w.
@@ -175,11 +175,14 @@ module _ {c : Settings} {i : ℕ} {room latest : List ℕ} {ring : Ring} {tail h
         omega arith)
 
     -- no record is left
-    pub released_all : head ≤ t → ReleaseDone c i room latest ring tail head list₀ listed₀ list (record { tail = t; listed = n })
-    released_all h = done v.to (λ k all cells a g q w. (let e = a.counted in absurd (omega arith)))
+    pub released_all : head ≤ t → ReleaseDone c i room latest ring tail head list₀ listed₀ list (record { tail = head; listed = n })
+    released_all h =
+        let e : head ≡ t = omega (arith, v.to) in
+        subst⁻¹ (λ (r : ℕ). ReleaseDone c i room latest ring tail head list₀ listed₀ list (record { tail = r; listed = n })) e
+        (done v.to (λ k all cells a g q w. (let e = a.counted in absurd (omega arith))))
 
     -- record t is old, and is listed or not
-    pub releasing_next : t < head → {x : Record} {slot : ℕ} → slot ≡ slot_of ring (t + 1 - 1) → x ≡ record_in room slot → x.cell.row + c.b < i
+    pub releasing_next : t < head → {x : Record} {slot : ℕ} → slot ≡ slot_of ring t → x ≡ record_in room slot → x.cell.row + c.b < i
         → {list' : List ℕ} {n' : ℕ} → n' ≡ listed_count (passes latest t x c) n → list' ≡ listed_room (passes latest t x c) c.k x list n
         → Releasing c i room latest ring tail head list₀ listed₀ (t + 1) list' n'
     unfolding listed_count

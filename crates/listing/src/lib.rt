@@ -4,7 +4,7 @@
 ghost use Rattle.std.specs.Prelude.{◌≡◌, ◌+◌, ◌-◌, ◌^◌, ◌≤◌, ◌<◌};
 ghost use Rattle.listing.specs.Leaving.{later_in, some_from, passes, listed_count, listed_room, ReleaseSafe, ReleaseDone};
 
-use predecessors::Ring;
+use predecessors::Held;
 use rules::{Record, Settings};
 
 // Whether a record of column q comes after record t: the column's latest does.
@@ -12,10 +12,7 @@ fn goes_on(latest: &[u32], t: usize, q: usize) -> bool
     requires { t < 2 ^ 32 }
     ensures { result ≡ later_in latest.now t q }
 {
-    if latest.len() <= q {
-        return false;
-    }
-    t + 1 < latest[q] as usize
+    q < latest.len() && t + 1 < latest[q] as usize
 }
 
 // Whether record t, a match of column j, is not closed. As it leaves, no record is more than b rows on, and those after it lie below it, or in its row
@@ -26,12 +23,10 @@ fn is_open(latest: &[u32], t: usize, j: usize, b: usize) -> bool
     requires b_bound { b < 2 ^ 32 }
     ensures { result ≡ some_from (later_in latest.now t) j (b + 1) }
 {
-    let mut n: usize = 0;
-    while n <= b {
-        if goes_on(latest, t, j + n) {
+    for q in j..j + b + 1 {
+        if goes_on(latest, t, q) {
             return true;
         }
-        n += 1;
     }
     false
 }
@@ -40,12 +35,7 @@ fn is_open(latest: &[u32], t: usize, j: usize, b: usize) -> bool
 fn span(last: u32, k: u32, start: u32) -> u64
     ensures { result ≡ last + k - start }
 {
-    let ends = last as u64 + k as u64;
-    let begins = start as u64;
-    if begins < ends {
-        return ends - begins;
-    }
-    0
+    (u64::from(last) + u64::from(k)).saturating_sub(u64::from(start))
 }
 
 // Whether record t, the match x, is listed: closed, and both spans at least m. The spans are tested first, since they cost least.
@@ -53,19 +43,10 @@ fn is_listed(latest: &[u32], t: usize, x: Record, c: Settings) -> bool
     requires { t < 2 ^ 32 }
     ensures { result ≡ passes latest.now t x c }
 {
-    let m = c.m as u64;
-    if span(x.cell.row, c.k, x.start.row) < m {
-        return false;
-    }
-    if span(x.cell.column, c.k, x.start.column) < m {
-        return false;
-    }
-    let j = numbers::wide(x.cell.column);
-    let b = numbers::wide(c.b);
-    if is_open(latest, t, j, b) {
-        return false;
-    }
-    true
+    let m = u64::from(c.m);
+    let first = span(x.cell.row, c.k, x.start.row);
+    let second = span(x.cell.column, c.k, x.start.column);
+    m <= first.min(second) && !is_open(latest, t, x.cell.column as usize, c.b as usize)
 }
 
 // Lists record t, the match x, behind n entries if it is listed, and returns how many there are then: also those that the list room cannot hold.
@@ -83,17 +64,16 @@ fn list_record(
     ensures value { result ≡ listed_count (passes latest.now t x c) n }
     ensures list_after { list.new ≡ listed_room (passes latest.now t x c) c.k x list.old n }
 {
-    if is_listed(latest, t, x, c) {
-        if n < rooms::entry_count(list) {
-            entries::put_entry(list, n, c.k, x);
-            return n + 1;
-        }
-        return n + 1;
+    if !is_listed(latest, t, x, c) {
+        return n;
     }
-    n
+    if n < rooms::entry_count(list) {
+        entries::put_entry(list, n, c.k, x);
+    }
+    n + 1
 }
 
-#[derive(Drop)]
+#[derive(Clone, Copy)]
 pub struct Released {
     // the number of the first record that is still held
     pub tail: usize,
@@ -105,27 +85,26 @@ pub struct Released {
 pub fn release(
     room: &[u32],
     latest: &[u32],
-    ring: Ring,
-    tail: usize,
-    head: usize,
+    held: Held,
     c: Settings,
     i: usize,
     list: &mut [u32],
     listed: usize,
 ) -> Released
-    requires { ReleaseSafe room.now ring tail head c listed }
-    ensures { ReleaseDone c i room.now latest.now ring tail head list.old listed list.new result }
+    requires { ReleaseSafe room.now held.ring held.tail held.head c listed }
+    ensures { ReleaseDone c i room.now latest.now held.ring held.tail held.head list.old listed list.new result }
 {
-    let b = numbers::wide(c.b);
-    let mut t = tail;
-    let mut n = listed;
-    while t < head {
-        let x = records::record_at(room, predecessors::slot(ring, t + 1));
-        if i <= numbers::wide(x.cell.row) + b {
-            return Released { tail: t, listed: n };
+    let b = c.b as usize;
+    let mut listed = listed;
+    for t in held.tail..held.head {
+        let x = records::record_at(room, held.ring.slot(t));
+        if i <= x.cell.row as usize + b {
+            return Released { tail: t, listed };
         }
-        n = list_record(latest, t, x, c, list, n);
-        t += 1;
+        listed = list_record(latest, t, x, c, list, listed);
     }
-    Released { tail: t, listed: n }
+    Released {
+        tail: held.head,
+        listed,
+    }
 }
