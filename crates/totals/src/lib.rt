@@ -25,13 +25,13 @@ pub fn count_rows(firsts: &mut [u32], n: usize, a: u32, count: &mut [u32]) -> bo
     ensures one_passes { result ≡ true → OnePasses a count.old count.new }
 {
     let mut late = false;
-    for row in 0..n {
-        let e = firsts[row] as usize;
+    for row in firsts[..n].iter_mut() {
+        let e = *row as usize;
         if 0 < e {
             let q = e - 1;
             let v = count[q];
             if a < v {
-                firsts[row] = 0;
+                *row = 0;
             } else {
                 count[q] = v + 1;
                 late |= v == a;
@@ -47,10 +47,10 @@ pub fn cap(count: &[u32], a: u32, firsts: &mut [u32], n: usize)
     requires upto { Upto firsts.old n (length count.now) }
     ensures { Capped count.now a firsts.old firsts.new n }
 {
-    for row in 0..n {
-        let e = firsts[row] as usize;
+    for row in firsts[..n].iter_mut() {
+        let e = *row as usize;
         if 0 < e && a < count[e - 1] {
-            firsts[row] = 0;
+            *row = 0;
         }
     }
 }
