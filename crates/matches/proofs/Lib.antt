@@ -4,4 +4,5 @@ pub mod Walking
 pub mod Walked
 pub mod Stepping
 pub mod Unique
+pub mod Leaving
 pub mod Examples
