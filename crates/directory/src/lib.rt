@@ -5,10 +5,11 @@
 
 ghost use Rattle.std.specs.Prelude.{◌≡◌, ◌-◌, ◌*◌, ◌^◌, ◌≤◌, ◌<◌, length};
 ghost use Rattle.requests.specs.Index.{kmer_places};
-ghost use Rattle.ownership.specs.Owners.{own_of, Owned};
+ghost use Rattle.ownership.specs.Owners.{Owned};
 ghost use Rattle.directory.specs.Directory.{bucket_of, ends_to, Rising, Bucketed, Reached, Lower, Near, next_near};
 
 use index::Lookup;
+use ownership::Owners;
 
 // An index with a directory of its keys.
 #[derive(Clone, Copy)]
@@ -76,20 +77,19 @@ fn lower(keys: &[u64], begin: usize, end: usize, c: u64) -> usize
     begin + keys[begin..end].partition_point(|key| *key < c)
 }
 
-impl Directory<'_> {
-    // The owner of one code, and 0 where it has none, as the arrays of owners hold it: equal codes are ordered by place, so the first key of its bucket that
-    // is not below it stands at its first column.
-    fn owner_of(self, c: u64) -> u32
-        ensures { result ≡ own_of self.entry.lookup.codes.now c }
-    {
-        if c == 0 {
+impl<'a> Owners for Directory<'a> {
+    ghost columns = { λ d. d.lookup.codes.now };
+
+    // Equal codes are ordered by place, so the first key of its bucket that is not below the code stands at its first column.
+    fn owner_of(&self, code: u64) -> u32 {
+        if code == 0 {
             return 0;
         }
         let keys = self.lookup.keys;
-        let end = usize::from(self.ends[bucket(c, self.low)]);
-        let begin = reach(keys, end, c);
-        let q = lower(keys, begin, end, c);
-        if q < end && keys[q] == c {
+        let end = usize::from(self.ends[bucket(code, self.low)]);
+        let begin = reach(keys, end, code);
+        let q = lower(keys, begin, end, code);
+        if q < end && keys[q] == code {
             self.lookup.index[q]
         } else {
             0
