@@ -105,7 +105,7 @@ fn is_near(second: &[u64], near: usize, c: u64) -> bool
 }
 
 // The index at which the next row's code is looked for first: behind the column that was found, and else one further, in case the rows have met a letter
-// that differs.
+// that differs. An owner of 0 is none, as `Owners` says.
 fn next_near(near: usize, owner: u32) -> usize
     requires { near < 2 ^ 32 }
     ensures { result ≡ next_near near owner }

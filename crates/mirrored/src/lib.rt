@@ -69,7 +69,7 @@ fn reverse(c: Settings, first: &[u8], lookup: Lookup, firsts: &mut [u32], nexts:
 // The one strand that is named.
 pub fn strand(
     c: Settings,
-    // kept: 0 or 1 as `Settings` has it, which C gives
+    // kept: 0 or 1, the number that `Settings` has for it, which C fills
     strand: u32,
     first: &[u8],
     coded: &[u64],

@@ -9,6 +9,9 @@ ghost use Rattle.walks.specs.Matched.{Fits, Columns, BothColumns};
 
 use rules::Settings;
 
+// kept: `Fits` says what is asked of settings, codes and letters in one clause, and each function hands the three on once; a struct would be made at each call
+// kept: two slices of 16,384 numbers: arrays would ask more of callers, and of slices in a struct with a ghost field a caller's proof loses what was written
+
 // The second sequence as it stands. A step a letter for its codes, and near as little for the matches.
 pub fn forward(c: Settings, coded: &[u64], second: &[u8], firsts: &mut [u32], nexts: &mut [u32])
     requires fits { Fits c coded.now second.now }
@@ -40,6 +43,7 @@ pub fn strand(c: Settings, coded: &[u64], second: &[u8], firsts: &mut [u32], nex
     requires nexts_len { length nexts.old ≡ 16384 }
     ensures { Columns c coded.now (on_strand c.strand (as_read c.mask second.now)) firsts.old nexts.old firsts.new nexts.new }
 {
+    // kept: the strand is a number of `Settings`, which C fills
     if c.strand == 0 {
         forward(c, coded, second, firsts, nexts);
     } else {
