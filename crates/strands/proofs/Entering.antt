@@ -1,6 +1,6 @@
 -- Entries of two strands in one list room: those of the reverse strand are listed behind the others as forward ones, and turned back where they stand.
 -- Assumes nothing.
-use Rattle.std.proofs.Common.{◌≡◌, ℕ, ◌+◌, ◌-◌, ◌*◌, ◌^◌, ◌<◌, ◌≤◌, min, List, [], ◌++◌, map, length, take, drop, sym, refl, ap, ◌∙◌, ap₂, arith, length-append, length-drop, take-append-drop, length-take-le, take_at}
+use Rattle.std.proofs.Common.{◌≡◌, ℕ, ◌+◌, ◌-◌, ◌*◌, ◌<◌, ◌≤◌, min, List, [], ◌++◌, map, length, take, drop, sym, refl, ap, ◌∙◌, ap₂, arith, length-append, length-drop, take-append-drop, length-take-le, take_at}
 use mathlib.Core.Path.{subst⁻¹}
 use borrow.Rule.Slice.PartMut.{mid_of, put_mid}
 use lib.ListN.{length-map}
@@ -19,23 +19,11 @@ use Rattle.entries.specs.Layout.{turn_entries}
 use Rattle.entries.proofs.Turning.{reverse_size, turned_all}
 use Rattle.rooms.proofs.Rests.{rest_is, rest_back}
 use Rattle.listing.specs.Leaving.{ListedTo}
-use Rattle.sweep.specs.Sweeping.{SweepSafe, ListsAll}
+use Rattle.sweep.specs.Sweeping.{ListsAll}
 use Rattle.strands.specs.Strands.{listing_of, entries_of, Walked, Entered, ListsAs, ListsBoth}
 use Rattle.strands.proofs.Needs.{none_needed}
 
 -- ---- one strand
-
-pub sweep_safe : (firsts nexts work : List ℕ) (c : Settings) (slots : ℕ) → Walked firsts nexts c → 8 * slots ≤ length work → slots < 2 ^ 32 → (slots ≡ 0 → ⊥)
-    → SweepSafe firsts nexts work (record { size = slots; origin = 0 }) c
-sweep_safe firsts nexts work c slots w h s n =
-    record {
-      fits = record { some_room = omega arith; begins = omega arith; small = s };
-      room_for = h;
-      walks = w.walks;
-      wide = w.wide;
-      some_base = w.some_base;
-      few_bases = w.few_bases;
-    }
 
 -- without slots there is nothing to list
 pub lists_none : {firsts nexts list : List ℕ} {c : Settings} {slots : ℕ} → slots ≡ 0 → walked_need c.b firsts nexts ≤ slots

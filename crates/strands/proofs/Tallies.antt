@@ -1,5 +1,5 @@
 -- The tallies of both strands are those of each put together, and no sum of links comes near 64 bits: 2^28 matches have at most 2^56. Assumes nothing.
-use Rattle.std.proofs.Common.{◌≡◌, ℕ, ◌+◌, ◌%◌, ◌^◌, ◌≤◌, max, List, length, ap, ◌∙◌, ap₂, mod-eq_of_lt, mul-le-mul, arith}
+use Rattle.std.proofs.Common.{◌≡◌, ℕ, ◌+◌, ◌^◌, ◌≤◌, max, List, length, ap, ◌∙◌, ap₂, mul-le-mul, arith}
 use Rattle.rules.specs.Rooms.{largest_run, pairs}
 use Rattle.matches.specs.Walks.{walked, WalkSafe}
 use Rattle.matches.proofs.Walked.{walked_few}
@@ -45,7 +45,6 @@ module _ {firsts nexts reverse-firsts reverse-nexts : List ℕ} (s : WalkSafe fi
         ap₂ (λ (x y : ℕ). record { matches = x; widest = y }) (ap₂ (λ (x y : Counts). x.matches + y.matches) f r)
         (e ∙ ap₂ (λ (x y : Counts). max x.widest y.widest) f r)
 
-  pub links_both : {n m total : ℕ} → n ≡ pairs b (walked firsts nexts) → m ≡ pairs b (walked reverse-firsts reverse-nexts) → total ≡ (n + m) % 2 ^ 64
-      → total ≡ pairs b (walked firsts nexts) + pairs b (walked reverse-firsts reverse-nexts)
-  links_both f r e =
-      e ∙ ap₂ (λ (x y : ℕ). (x + y) % 2 ^ 64) f r ∙ mod-eq_of_lt (let a = few_links b s in let z = few_links b t in omega arith)
+  -- no sum of links comes near a word
+  pub links_few : pairs b (walked firsts nexts) + pairs b (walked reverse-firsts reverse-nexts) ≤ 2 ^ 57
+  links_few = omega (arith, few_links b s, few_links b t)

@@ -51,7 +51,7 @@ pub fn count_matches(walk: Walk, b: usize) -> Counts
 {
     let mut matches = 0;
     let mut run = 0;
-    let mut widest = 0;
+    let mut widest: usize = 0;
     for p in 0..walk.rows() {
         let size = row_size(walk.row(p));
         matches += size;

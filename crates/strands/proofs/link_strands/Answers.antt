@@ -1,7 +1,8 @@
--- `strands::link_strands` meets its contract: each strand's links are exact, and the sum does not wrap. Assumes nothing.
-use Rattle.strands.proofs.Tallies.{links_both}
+-- `strands::link_strands` meets its contract: no sum of links comes near a word. Assumes nothing.
+use Rattle.std.proofs.Common.{arith}
+use Rattle.strands.proofs.Tallies.{links_few}
 use Rattle.strands.proofs.link_strands.Goals as goal
 
-pub returns : goal.returns
-returns c =
-    links_both c.requires.walk_safe c.requires.walk_safe_2 c.args.b c.count_links-forward.ensures c.count_links-reverse.ensures c.wrapping_add_u64.ensures.value
+pub overflow_add-result : goal.overflow_add-result
+overflow_add-result c =
+    omega (arith, links_few c.args.strands.forward.safe c.args.strands.reverse.safe c.args.b, c.count_links.ensures, c.count_links-2.ensures)

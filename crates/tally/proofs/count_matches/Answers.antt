@@ -1,6 +1,4 @@
-use Prim.Native.Nat.{ℕ, ◌+◌, ◌^◌, ◌≤◌, ◌<◌, max}
-use Rattle.std.specs.Ordering.{ord_max, nat_cmp}
-use Rattle.std.proofs.lemmas.Grind.{common_steps}
+use Prim.Native.Nat.{ℕ, ◌+◌, ◌^◌, ◌≤◌, ◌<◌}
 use mathlib.Core.Path.{◌≡◌}
 use mathlib.Core.List.{List}
 use native.Mathlib.Omega.{arith}
@@ -31,14 +29,10 @@ pub overflow_add-run : goal.overflow_add-run
 overflow_add-run c =
     omega (arith, rows_fit _ _ c.args.walk.safe c.loop-p.invariant (row_is c.row.ensures.nexts c.row.ensures.begins c.row_size-size.ensures))
 
--- `max` of numbers
-max_is : (x y r : ℕ) → r ≡ ord_max nat_cmp x y → r ≡ max x y
-max_is x y r e = grind (arith, common_steps)
-
 pub loop-p-preserved : goal.loop-p-preserved
 loop-p-preserved c =
     run_next c.args.walk.safe c.loop-p.invariant _ (omega arith) (row_is c.row.ensures.nexts c.row.ensures.begins c.row_size-size.ensures) c.leaving.ensures
-    c.saturating_sub-run.ensures (max_is _ _ _ c.max-widest.ensures)
+    c.saturating_sub-run.ensures c.max-widest.ensures
 
 pub returns : goal.returns
 returns c =
