@@ -14,6 +14,7 @@ use Rattle.rules.specs.Rooms.{in_run, largest_run}
 use Rattle.rules.proofs.Tests.{tests}
 use Rattle.rules.proofs.ListLaws.{keep_none, count_append, largest_to_ge}
 use Rattle.rules.proofs.Sweeps.{swept_rows, swept_all, matches_split, held_window}
+use Rattle.predecessors.specs.declared.ring.Ring.{Ring}
 use Rattle.predecessors.specs.Numbers.{slot_of}
 use Rattle.stopping.specs.Stopping.{RingFrom}
 
@@ -54,19 +55,23 @@ module _ (b : ℕ) (hit : Cell → Bool) (columns rows : ℕ) where
 
 -- ---- the ring of a stopped sweep
 
-module _ (size before : ℕ) (some : 1 ≤ size) (small : size < 2 ^ 32) where
-  pub ring_even : before % size ≡ 0 → RingFrom size before (record { size = size; origin = 0 })
+module _ (size before : ℕ) (ring : Ring) (sized : ring.size ≡ size) where
+  pub ring_even : ring.origin ≡ 0 → before % size ≡ 0 → RingFrom size before ring
   unfolding slot_of
-  ring_even e =
-      record { fits = record { some_room = some; begins = some; small = small }; sized = refl; first = (let k : before + 0 ≡ before = omega arith in ap (λ (n : ℕ). n % size) k ∙ e) }
+  ring_even o e =
+      record {
+        fits = record { some_room = ring.some_room; begins = ring.begins; small = ring.small };
+        sized = sized;
+        first = rw (sized, o) (let k : before + 0 ≡ before = omega arith in ap (λ (n : ℕ). n % size) k ∙ e);
+      }
 
-  pub ring_odd : (before % size ≡ 0 → ⊥) → RingFrom size before (record { size = size; origin = size - before % size })
+  pub ring_odd : 1 ≤ size → ring.origin ≡ size - before % size → (before % size ≡ 0 → ⊥) → RingFrom size before ring
   unfolding slot_of
-  ring_odd n =
+  ring_odd some o n =
       let l = mod-lt before some in
       let k : before % size + (size - before % size) ≡ size = omega arith in
       record {
-        fits = record { some_room = some; begins = omega arith; small = small };
-        sized = refl;
-        first = sym (mod-add-mod before size (size - before % size)) ∙ ap (λ (m : ℕ). m % size) k ∙ mod_self size;
+        fits = record { some_room = ring.some_room; begins = ring.begins; small = ring.small };
+        sized = sized;
+        first = rw (sized, o) (sym (mod-add-mod before size (size - before % size)) ∙ ap (λ (m : ℕ). m % size) k ∙ mod_self size);
       }
