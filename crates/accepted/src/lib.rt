@@ -10,7 +10,9 @@ ghost use Rattle.walks.specs.Matched.{Fits};
 ghost use Rattle.accepted.specs.Coded.{compared_coded, stopped_coded, needed_coded};
 
 use answers::{Refusal, Tallies};
+use matches::Walk;
 use rules::Settings;
+use strands::Strands;
 
 // Lists what is shared on the strands that are named.
 pub fn compare_coded(
@@ -38,16 +40,17 @@ pub fn compare_coded(
         &mut reverse_firsts,
         &mut reverse_nexts,
     );
-    jobs::compare_matches(
-        &firsts[..rows],
-        &nexts,
-        &reverse_firsts[..reverse_rows],
-        &reverse_nexts,
-        c,
-        second.len() as u32,
-        work,
-        list,
-    )
+    let strands = Strands {
+        forward: Walk {
+            firsts: &firsts[..rows],
+            nexts: &nexts,
+        },
+        reverse: Walk {
+            firsts: &reverse_firsts[..reverse_rows],
+            nexts: &reverse_nexts,
+        },
+    };
+    jobs::compare_matches(strands, c, second.len() as u32, work, list)
 }
 
 // Leaves the run of a row of the one strand that is named.
@@ -66,7 +69,11 @@ pub fn stop_coded(
     let mut firsts = [0u32; 16384];
     let mut nexts = [0u32; 16384];
     walks::strand(c, coded, second, &mut firsts, &mut nexts);
-    stopping::stop_matches(&firsts[..rows], &nexts, c, work, row as usize)
+    let walk = Walk {
+        firsts: &firsts[..rows],
+        nexts: &nexts,
+    };
+    stopping::stop_matches(walk, c, work, row as usize)
 }
 
 // Tells how many records of work room the strands that are named need.
@@ -89,12 +96,16 @@ pub fn need_coded(c: Settings, coded: &[u64], second: &[u8]) -> usize
         &mut reverse_firsts,
         &mut reverse_nexts,
     );
-    let counts = strands::count_strands(
-        &firsts[..rows],
-        &nexts,
-        &reverse_firsts[..reverse_rows],
-        &reverse_nexts,
-        c.b as usize,
-    );
+    let strands = Strands {
+        forward: Walk {
+            firsts: &firsts[..rows],
+            nexts: &nexts,
+        },
+        reverse: Walk {
+            firsts: &reverse_firsts[..reverse_rows],
+            nexts: &reverse_nexts,
+        },
+    };
+    let counts = strands::count_strands(strands, c.b as usize);
     counts.widest
 }

@@ -13,7 +13,9 @@ ghost use Rattle.accepted.specs.Coded.{compared_coded, stopped_coded};
 
 use answers::{Refusal, Tallies};
 use index::Lookup;
+use matches::Walk;
 use rules::Settings;
+use strands::Strands;
 
 // Lists what is shared on the strands that are named.
 pub fn compare_indexed(
@@ -46,16 +48,17 @@ pub fn compare_indexed(
         &mut reverse_firsts,
         &mut reverse_nexts,
     );
-    jobs::compare_matches(
-        &firsts[..rows],
-        &nexts,
-        &reverse_firsts[..reverse_rows],
-        &reverse_nexts,
-        c,
-        second.len() as u32,
-        work,
-        list,
-    )
+    let strands = Strands {
+        forward: Walk {
+            firsts: &firsts[..rows],
+            nexts: &nexts,
+        },
+        reverse: Walk {
+            firsts: &reverse_firsts[..reverse_rows],
+            nexts: &reverse_nexts,
+        },
+    };
+    jobs::compare_matches(strands, c, second.len() as u32, work, list)
 }
 
 // Leaves the run of a row of the one strand that is named.
@@ -78,5 +81,9 @@ pub fn stop_indexed(
     let mut firsts = [0u32; 16384];
     let mut nexts = [0u32; 16384];
     mirrored::strand(c, c.strand, first, coded, lookup, &mut firsts, &mut nexts);
-    stopping::stop_matches(&firsts[..rows], &nexts, c, work, row as usize)
+    let walk = Walk {
+        firsts: &firsts[..rows],
+        nexts: &nexts,
+    };
+    stopping::stop_matches(walk, c, work, row as usize)
 }

@@ -2,7 +2,7 @@
 #![tactic(auto)]
 
 ghost use Rattle.std.specs.Prelude.{◌≡◌, ◌+◌, ◌≤◌, length};
-ghost use Rattle.matches.specs.Walks.{walked, WalkSafe};
+ghost use Rattle.matches.specs.Walks.{walked};
 ghost use Rattle.rules.specs.Rooms.{pairs};
 ghost use Rattle.rules.specs.Answers.{left, finishing};
 ghost use Rattle.answers.specs.Outcomes.{answer_of};
@@ -11,24 +11,20 @@ ghost use Rattle.jobs.specs.Jobs.{entries_in, compared_of};
 
 use answers::{Refusal, Tallies};
 use rules::Settings;
+use strands::Strands;
 use tally::Counts;
 
 // Check 8, and the end of a job whose entries stand in the list room: zeros after them and in the work room. The links cost at most b + 1 columns a
 // match, and few where matches lie close.
 pub fn finish(
-    firsts: &[u32],
-    nexts: &[u32],
-    reverse_firsts: &[u32],
-    reverse_nexts: &[u32],
+    strands: Strands,
     b: usize,
     listed: usize,
     counts: Counts,
     work: &mut [u32],
     list: &mut [u32],
 ) -> Result<Tallies, Refusal>
-    requires walk_safe { WalkSafe firsts.now nexts.now }
-    requires walk_safe_2 { WalkSafe reverse_firsts.now reverse_nexts.now }
-    ensures { left (answer_of result) work.new list.new ≡ finishing (entries_in listed list.old) counts.matches counts.widest (pairs b (walked firsts.now nexts.now) + pairs b (walked reverse_firsts.now reverse_nexts.now)) work.old list.old }
+    ensures { left (answer_of result) work.new list.new ≡ finishing (entries_in listed list.old) counts.matches counts.widest (pairs b (walked strands.entry.forward.firsts.now strands.entry.forward.nexts.now) + pairs b (walked strands.entry.reverse.firsts.now strands.entry.reverse.nexts.now)) work.old list.old }
 {
     rooms::zero_all(work);
     if rooms::entry_count(list) < listed {
@@ -36,7 +32,7 @@ pub fn finish(
         return Err(Refusal::ListRoom(listed));
     }
     rooms::zero_after_entries(list, listed);
-    let links = strands::link_strands(firsts, nexts, reverse_firsts, reverse_nexts, b);
+    let links = strands::link_strands(strands, b);
     Ok(Tallies {
         listed,
         matches: counts.matches,
@@ -47,48 +43,25 @@ pub fn finish(
 
 // Check 7, the sweeps over both strands of a second sequence of so many letters, and the end. A sweep costs at most a row's columns a row.
 pub fn compare_matches(
-    firsts: &[u32],
-    nexts: &[u32],
-    reverse_firsts: &[u32],
-    reverse_nexts: &[u32],
+    strands: Strands,
     c: Settings,
     letters: u32,
     work: &mut [u32],
     list: &mut [u32],
 ) -> Result<Tallies, Refusal>
-    requires walked { Walked firsts.now nexts.now c }
-    requires walked_2 { Walked reverse_firsts.now reverse_nexts.now c }
+    requires walked { Walked strands.forward.firsts.now strands.forward.nexts.now c }
+    requires walked_2 { Walked strands.reverse.firsts.now strands.reverse.nexts.now c }
     requires letters_bound { letters ≤ 16384 }
-    ensures { left (answer_of result) work.new list.new ≡ compared_of c letters (walked firsts.now nexts.now) (length firsts.now) (walked reverse_firsts.now reverse_nexts.now) (length reverse_firsts.now) work.old list.old }
+    ensures { left (answer_of result) work.new list.new ≡ compared_of c letters (walked strands.entry.forward.firsts.now strands.entry.forward.nexts.now) (length strands.entry.forward.firsts.now) (walked strands.entry.reverse.firsts.now strands.entry.reverse.nexts.now) (length strands.entry.reverse.firsts.now) work.old list.old }
 {
     let b = c.b as usize;
-    let counts = strands::count_strands(firsts, nexts, reverse_firsts, reverse_nexts, b);
+    let counts = strands::count_strands(strands, b);
     let widest = counts.widest;
     if rooms::record_count(work) < widest {
         rooms::zero_all(work);
         rooms::zero_all(list);
         return Err(Refusal::WorkRoom(widest));
     }
-    let listed = strands::list_strands(
-        firsts,
-        nexts,
-        reverse_firsts,
-        reverse_nexts,
-        widest,
-        c,
-        letters,
-        work,
-        list,
-    );
-    finish(
-        firsts,
-        nexts,
-        reverse_firsts,
-        reverse_nexts,
-        b,
-        listed,
-        counts,
-        work,
-        list,
-    )
+    let listed = strands::list_strands(strands, widest, c, letters, work, list);
+    finish(strands, b, listed, counts, work, list)
 }

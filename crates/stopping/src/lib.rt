@@ -20,25 +20,23 @@ fn ring_from(size: usize, before: usize) -> Ring
     ensures { RingFrom size before result }
 {
     let over = before % size;
-    let origin = if over == 0 { 0 } else { size - over };
-    Ring { size, origin }
+    if over == 0 {
+        return Ring { size, origin: 0 };
+    }
+    Ring {
+        size,
+        origin: size - over,
+    }
 }
 
 // Sweeps the rows up to `row` over W slots so that its run begins in slot 0, and leaves it there, zeros after it; returns how many records it holds.
-fn hold(
-    firsts: &[u32],
-    nexts: &[u32],
-    widest: usize,
-    c: Settings,
-    work: &mut [u32],
-    row: usize,
-) -> usize
-    requires walked { Walked firsts.now nexts.now c }
+fn hold(walk: Walk, widest: usize, c: Settings, work: &mut [u32], row: usize) -> usize
+    requires walked { Walked walk.firsts.now walk.nexts.now c }
     requires widest_in_bounds { 8 * widest ≤ length work.old }
     requires widest_bound { widest < 2 ^ 32 }
-    requires row_in_bounds { row ≤ length firsts.now }
-    requires nexts_bound { walked_need c.b firsts.now nexts.now ≤ widest }
-    ensures { Holds firsts.now nexts.now c row work.old work.new result }
+    requires row_in_bounds { row ≤ length walk.firsts.now }
+    requires nexts_bound { walked_need c.b walk.firsts.now walk.nexts.now ≤ widest }
+    ensures { Holds walk.entry.firsts.now walk.entry.nexts.now c row work.old work.new result }
 {
     if widest == 0 {
         rooms::zero_all(work);
@@ -46,37 +44,40 @@ fn hold(
     }
     // the last row before the run, or 0
     let last = row.saturating_sub(c.b as usize + 1);
-    let before = tally::matches_before(Walk { firsts, nexts }, last);
+    let before = tally::matches_before(walk, last);
     let ring = ring_from(widest, before);
-    sweep::hold_run(&firsts[..row], nexts, work, ring, c)
+    let first_rows = Walk {
+        firsts: &walk.firsts[..row],
+        nexts: walk.nexts,
+    };
+    sweep::hold_run(first_rows, work, ring, c)
 }
 
 // Checks 7 and 19 and the run of a row, on one strand.
 pub fn stop_matches(
-    firsts: &[u32],
-    nexts: &[u32],
+    walk: Walk,
     c: Settings,
     work: &mut [u32],
     row: usize,
 ) -> Result<Tallies, Refusal>
-    requires { Walked firsts.now nexts.now c }
-    ensures { left (answer_of result) work.new [] ≡ stopped_of c (walked firsts.now nexts.now) (length firsts.now) work.old row }
+    requires { Walked walk.firsts.now walk.nexts.now c }
+    ensures { left (answer_of result) work.new [] ≡ stopped_of c (walked walk.entry.firsts.now walk.entry.nexts.now) (length walk.entry.firsts.now) work.old row }
 {
     let b = c.b as usize;
-    let counts = tally::count_matches(Walk { firsts, nexts }, b);
+    let counts = tally::count_matches(walk, b);
     let widest = counts.widest;
     let holds = rooms::record_count(work);
     if holds < widest {
         rooms::zero_all(work);
         return Err(Refusal::WorkRoom(widest));
     }
-    let rows = firsts.len();
+    let rows = walk.firsts.len();
     if rows < row {
         rooms::zero_all(work);
         return Err(Refusal::NoRow(rows));
     }
-    let held = hold(firsts, nexts, widest, c, work, row);
-    let links = links::count_links(Walk { firsts, nexts }, b);
+    let held = hold(walk, widest, c, work, row);
+    let links = links::count_links(walk, b);
     Ok(Tallies {
         listed: held,
         matches: counts.matches,

@@ -7,15 +7,16 @@ pub slice_bounds-reverse_firsts-end : goal.slice_bounds-reverse_firsts-end
 slice_bounds-reverse_firsts-end c =
     (both_walks c.requires c.both-reverse_rows.ensures).reverse.inside
 
-pub slice_bounds-count_strands-end-3 : goal.slice_bounds-count_strands-end-3
-slice_bounds-count_strands-end-3 c =
+pub slice_bounds-strands-end-3 : goal.slice_bounds-strands-end-3
+slice_bounds-strands-end-3 c =
     (both_walks c.requires c.both-reverse_rows.ensures).reverse.long
+
+pub invariant_of-strands : goal.invariant_of-strands
+invariant_of-strands c = record { safe = (both_walks c.requires c.both-reverse_rows.ensures).forward.safe }
+
+pub invariant_of-strands-2 : goal.invariant_of-strands-2
+invariant_of-strands-2 c = record { safe = (both_walks c.requires c.both-reverse_rows.ensures).reverse.safe }
 
 pub returns : goal.returns
 returns c =
     measures (both_walks c.requires c.both-reverse_rows.ensures) refl c.count_strands-counts.ensures
-
-pub count_strands-counts-requires : goal.count_strands-counts-requires
-count_strands-counts-requires c =
-    let m = both_walks c.requires c.both-reverse_rows.ensures in
-    record { walk_safe = m.forward.safe; walk_safe_2 = m.reverse.safe }

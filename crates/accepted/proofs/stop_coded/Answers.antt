@@ -3,6 +3,9 @@ use Rattle.std.proofs.Common.{refl}
 use Rattle.accepted.proofs.Walking.{strand_walks, walks_fit, stops}
 use Rattle.accepted.proofs.stop_coded.Goals as goal
 
+pub invariant_of-walk : goal.invariant_of-walk
+invariant_of-walk c = record { safe = (strand_walks c.requires c.strand.ensures).safe }
+
 pub returns : goal.returns
 returns c =
     stops _ (strand_walks c.requires c.strand.ensures) _ refl c.stop_matches.ensures

@@ -28,8 +28,14 @@ walked t ok few e found = both_matched t ok few e blank blank blank blank found
 pub slice_bounds-reverse_firsts-end : goal.slice_bounds-reverse_firsts-end
 slice_bounds-reverse_firsts-end c = (walked _ c.requires.fits_first c.args.lookup.few c.requires.codes_value c.both-reverse_rows.ensures).reverse.inside
 
-pub slice_bounds-compare_matches-end-3 : goal.slice_bounds-compare_matches-end-3
-slice_bounds-compare_matches-end-3 c = (walked _ c.requires.fits_first c.args.lookup.few c.requires.codes_value c.both-reverse_rows.ensures).reverse.long
+pub slice_bounds-strands-end-3 : goal.slice_bounds-strands-end-3
+slice_bounds-strands-end-3 c = (walked _ c.requires.fits_first c.args.lookup.few c.requires.codes_value c.both-reverse_rows.ensures).reverse.long
+
+pub invariant_of-strands : goal.invariant_of-strands
+invariant_of-strands c = record { safe = (walked _ c.requires.fits_first c.args.lookup.few c.requires.codes_value c.both-reverse_rows.ensures).forward.safe }
+
+pub invariant_of-strands-2 : goal.invariant_of-strands-2
+invariant_of-strands-2 c = record { safe = (walked _ c.requires.fits_first c.args.lookup.few c.requires.codes_value c.both-reverse_rows.ensures).reverse.safe }
 
 pub compare_matches-requires : goal.compare_matches-requires
 compare_matches-requires c =

@@ -7,6 +7,11 @@ use Rattle.accepted.proofs.Walking.{blank, walks_fit, stops}
 use Rattle.mirrored.proofs.Matching.{columns_matched}
 use Rattle.admitted.proofs.stop_indexed.Goals as goal
 
+pub invariant_of-walk : goal.invariant_of-walk
+invariant_of-walk c =
+    let walked : Matched c.args.c c.args.coded.now (on_strand c.args.c.strand (as_read c.args.c.mask c.args.second.now)) c.strand.new.firsts c.strand.new.nexts (length c.args.coded.now) = columns_matched c.args.second.now c.requires.fits_first c.args.lookup.few c.requires.codes_value c.args.c.strand blank blank c.strand.ensures in
+    record { safe = walked.safe }
+
 pub returns : goal.returns
 returns c =
     let walked : Matched c.args.c c.args.coded.now (on_strand c.args.c.strand (as_read c.args.c.mask c.args.second.now)) c.strand.new.firsts c.strand.new.nexts (length c.args.coded.now) = columns_matched c.args.second.now c.requires.fits_first c.args.lookup.few c.requires.codes_value c.args.c.strand blank blank c.strand.ensures in
