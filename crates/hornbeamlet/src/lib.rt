@@ -1,5 +1,6 @@
 // The C boundary: the entry points on plain numbers and slices, each slice a pointer and a length. Thin: all is done in `compare`,
 // `building`, `indexed` and `frames`.
+// kept: the settings as six numbers, the answer as seven and a reply as one, and a function for each: the C interface.
 #![tactic(auto)]
 
 ghost use Rattle.std.specs.Prelude.{◌≡◌};

@@ -1,5 +1,6 @@
 // The exports for C, in a static library: each calls the function of its name in `hornbeamlet`, which stays a library for other crates, under the same
 // clauses.
+// kept: twins of that crate's functions: the C interface, and a crate is a library or a static library.
 #![tactic(auto)]
 
 ghost use Rattle.std.specs.Prelude.{◌≡◌};

@@ -42,6 +42,7 @@ pub struct Done {
 }
 
 // Why a job, or an input, was refused. Of an input the sequence is 0 and the detail its line.
+// kept: the number as the frame carries it, any that a byte holds; an enum would ask more of callers.
 #[derive(Clone, Copy, Debug, PartialEq, Eq)]
 pub struct Refused {
     pub number: u64,

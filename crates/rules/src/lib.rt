@@ -2,6 +2,7 @@
 #![tactic(auto)]
 
 // What the user enters.
+// kept: strand and mask are the numbers that C fills, and the definitions and theorems of specs/ speak of those outside their ranges too, which are refused.
 #[derive(Clone, Copy)]
 pub struct Settings {
     // the k-mer length
@@ -19,7 +20,8 @@ pub struct Settings {
 }
 
 // A byte as it is read.
-#[derive(Drop)]
+// kept: a capital of 0 for none, as `read_letter` of specs/Letters.antt and the theorems on it say.
+#[derive(Clone, Copy)]
 pub struct Letter {
     // 0 where it is none of the fifteen, in either case
     pub capital: u8,
@@ -43,7 +45,8 @@ pub struct Record {
 }
 
 // A number, a sequence (0, 1 or 2), a detail, and four tallies. On refusal all four are 0.
-#[derive(Drop)]
+// kept: the paper's numbers, which cross the C boundary, and of which `Outcome`, `given` and the theorems of specs/ speak; code has a `Result` (`answers`).
+#[derive(Clone, Copy)]
 pub struct Answer {
     pub number: u64,
     pub sequence: u64,

@@ -14,6 +14,7 @@ pub fn count_on(v: u32, a: u32) -> u32
 
 // Each k-mer's count over the first n rows too, which makes it the total. A row whose k-mer has passed a before is set to 0 at once, and nothing of
 // it is counted any more. True where a k-mer passes a at a row, since that row and those before it are then left to be capped. One turn a row.
+// kept: one yes or no, with no value beside it.
 pub fn count_rows(firsts: &mut [u32], n: usize, a: u32, count: &mut [u32]) -> bool
     requires n_in_bounds { n ≤ length firsts.old }
     requires n_bound { n ≤ 16384 }
