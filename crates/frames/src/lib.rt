@@ -102,10 +102,9 @@ fn write_piece(kind: Kind, values: &[u64], line: &mut [u8]) -> Result<usize, Fra
     let mut codes = [0u8; 128];
     put_codes(values, &mut codes)?;
     let codes = &codes[..values.len()];
-    if kind == Kind::FirstPiece {
-        writers::write_first_piece(codes, line)
-    } else {
-        writers::write_second_piece(codes, line)
+    match kind {
+        Kind::FirstPiece => writers::write_first_piece(codes, line),
+        _ => writers::write_second_piece(codes, line),
     }
 }
 
@@ -134,6 +133,7 @@ pub fn write_frame(kind: u32, values: &[u64], line: &mut [u8]) -> u64
     ensures { (result ≡ frame_reply kind values.now line.old) × (line.new ≡ frame_left kind values.now line.old) }
 {
     match write_kind(kind, values, line) {
+        // kept: there is no u64::from(usize)
         Ok(length) => length as u64,
         Err(_) => 4294967296 + 27,
     }

@@ -18,13 +18,13 @@ use Rattle.decoding.proofs.Frames.{frame_read}
 use Rattle.payloads.specs.Pieces.{codes_in}
 use Rattle.pieces.specs.Letters.{is_piece, piece_number, letters_in}
 use Rattle.input.specs.Lines.{lines_of, line_size}
-use Rattle.turns.specs.Turns.{Progress, in_turn, frame_number, payload_in, size_number, job_size, payload_number, line_number, after}
+use Rattle.turns.specs.Turns.{Progress, in_turn, frame_number, payload_in, job_size, payload_number, line_number, after}
 use Rattle.input.specs.Grammar.{nothing_yet, stopped, read_lines, input_of}
 use Rattle.input.proofs.Lines.{size_some, first_line}
 use Rattle.pieces.proofs.Unpacking.{piece_parts, count_least}
 use Rattle.pieces.proofs.Pieces.{few_letters}
 use Rattle.turns.proofs.Numbering.{InItsTurn, in_turn_parts}
-use Rattle.turns.proofs.Taking.{payload_size, frame_size, JobSized, seven, eight, job_sized}
+use Rattle.turns.proofs.Taking.{payload_size, frame_size, JobSized, seven, eight, job_sized, size_right}
 
 -- ---- lines of an input that is cut
 
@@ -105,11 +105,6 @@ good p l z = go (eqb (frame_number p.turn (frame_in l)) 0) refl
           right = rw e at z;
           long = omega (arith, payload_size l f, frame_size l f, bytes_length l (line_parts l f.ok).ends);
         }
-
-size_right : (right : Bool) → size_number right ≡ 0 → right ≡ true
-unfolding size_number
-size_right true z = refl
-size_right false z = absurd (omega arith)
 
 -- a job has at most 8 bytes
 job_most : {size : ℕ} → JobSized size → size ≤ 8

@@ -38,6 +38,7 @@ fn put_entry(numbers: &[u32; 6], output: &mut [u8]) -> Result<usize, FrameError>
     ensures output_after { output.new ≡ leaves (entry_fits (entry_of numbers.now)) (line_of_entry numbers.now) output.old }
 {
     let entry = entry_of(numbers);
+    // kept: the list room holds the strand as a number, as C reads it
     if numbers[5] == 0 {
         writers::write_entry(entry, output)
     } else {
@@ -67,6 +68,7 @@ fn put_listing(list: &[u32], tallies: Tallies, output: &mut [u8]) -> usize
     ensures output_after { output.new ≡ in_front (listing_lines list.now (tallied tallies)) output.old }
 {
     let at = put_entries(list, tallies.listed, output);
+    // kept: there is no u64::from(usize)
     let done = Done {
         listed: tallies.listed as u64,
         matches: tallies.matches as u64,

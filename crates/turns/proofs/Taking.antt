@@ -56,7 +56,7 @@ job_sized size h = go (eqb size 7) refl h
     go true e w = seven (eqb-true size 7 e)
     go false e w = eight (eqb-true size 8 w)
 
-size_right : (right : Bool) → size_number right ≡ 0 → right ≡ true
+pub size_right : (right : Bool) → size_number right ≡ 0 → right ≡ true
 unfolding size_number
 size_right true z = refl
 size_right false z = absurd (omega arith)

@@ -39,6 +39,7 @@ impl Turn {
 }
 
 // What the lines so far have said: what may come next, the settings and how many letters each sequence has.
+// kept: the counts stand here and the lent buffers beside: docs/MAP.md names `pieces::take_piece`, `turns::take_line` and `input::read_input`, which lend slices
 #[derive(Clone, Copy)]
 pub struct State {
     pub turn: Turn,
@@ -55,6 +56,7 @@ fn settings_in(bytes: &[u8], size: usize) -> Result<Settings, FrameError>
     ensures number { number_in result ≡ size_number (job_size size) }
     ensures value { IfOk result (λ settings. settings ≡ job_in size bytes.now) }
 {
+    // kept: these casts are proved to lose nothing, a field having one byte or two; u32::try_from would add an Err that never comes
     let strand = match size {
         7 => 0,
         8 => payloads::number_at(bytes, 9, 1) as u32,
