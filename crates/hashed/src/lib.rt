@@ -65,6 +65,7 @@ fn put(second: &[u64], bucket: &mut [u32], link: &mut [u32], n: usize)
     let h = hash(second[n]);
     let b = bucket[h];
     link[n] = b;
+    // kept: `as`, here and in `build`, since columns are few and `try_from` would bring an error that cannot be
     bucket[h] = (n + 1) as u32;
 }
 

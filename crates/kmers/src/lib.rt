@@ -37,6 +37,7 @@ impl Reader {
     fn new(mask: u32) -> Reader
         ensures { result.mask ≡ mask }
     {
+        // kept: the setting's number, 0 or 1: the settings of rules and of C, and `as_read`, have it so
         let sees = if mask == 0 { 0xDF } else { 0xFF };
         Reader { mask, sees }
     }
@@ -48,6 +49,7 @@ impl Reader {
     {
         let seen = letter & self.sees;
         let two = ((seen >> 1) ^ (seen >> 2)) & 3;
+        // kept: `as`, of a byte cut out of the four; `to_le_bytes` would read an array
         let expected = ((ACGT >> (8 * two)) & 255) as u8;
         (seen == expected).then_some(u64::from(two))
     }
@@ -81,6 +83,7 @@ fn roll(code: u64, base: u64, k: usize, bits: u64) -> u64
 }
 
 // The number that stands for a place whose letters end a run of bases: 0 where the run is shorter than k.
+// kept: 0 for no k-mer: a number a place, and `kmer_code` of rules/specs/Codes.antt says so.
 fn slot(code: u64, run: usize, k: usize) -> u64
     requires { code < 2 ^ 62 }
     ensures { result ≡ cond (leb k run) (code + 1) 0 }

@@ -15,7 +15,8 @@ const MASK: u8 = 0x20;
 const UNMASKED: u8 = 0xDF;
 
 // The letter of each code. Code 0 has none.
-// kept: 0 for none, here and in all that is read below: `letter_of`, `code_of`, `read_letter` and `complement` of rules/specs/Letters.antt say so, and the theorems on them.
+// kept: 0 for none, here and in all that is read below: `letter_of`, `code_of`, `read_letter` and `complement` of rules/specs/Letters.antt say so, and
+// the theorems on them.
 const LETTERS: [u8; 16] = [
     0, b'A', // 1
     b'C', // 2

@@ -35,6 +35,7 @@ pub fn link_columns(
             let q = e - 1;
             let t = tail[q];
             nexts[p] = t;
+            // kept: `as`, since columns are few and `try_from` would bring an error that cannot be
             tail[q] = (p + 1) as u32;
             count[q] = totals::count_on(count[q], a);
         }

@@ -1,32 +1,22 @@
 -- Two numbers compared, two truth values told apart, a list read after a store or as it is laid out: what every law here and above is made
 -- of. Assumes nothing.
-use mathlib.Core.Path.{◌≡◌, refl, sym, ap, ◌∙◌}
-use mathlib.Core.Bool.{Bool, true, false, cond, ◌&&◌}
+use mathlib.Core.Path.{◌≡◌, refl, sym, ◌∙◌}
+use mathlib.Core.Bool.{Bool, true, false, ◌&&◌}
 use mathlib.Core.List.{List}
 use mathlib.Core.Logic.{◌⊎◌, inl, inr, ⊎_elim}
 use Prim.Native.Nat.{ℕ, zero, suc, ◌<◌, ◌≤◌}
-use native.Mathlib.Omega.{arith}
-use lib.Dec.{eqb, leb}
+use Rattle.std.proofs.lemmas.Bool.{cases_eq, cases_lt, true≢false}
 use lib.ListN.{get_or, length, set, replicate}
 use lib.Seq.{get_or-set_same, get_or-set_other, ext_get_or}
-use borrow.Author.Tests.{leb-true, leb-false, eqb-true, eqb-false}
-
-le_or_lt_by : (a b : ℕ) (t : Bool) → leb a b ≡ t → (a ≤ b) ⊎ (b < a)
-le_or_lt_by a b true e = inl (leb-true a b e)
-le_or_lt_by a b false e = inr (leb-false a b e)
 
 pub le_or_lt : (a b : ℕ) → (a ≤ b) ⊎ (b < a)
-le_or_lt a b = le_or_lt_by a b (leb a b) refl
-
-eq_or_ne_by : (a b : ℕ) (t : Bool) → eqb a b ≡ t → (a ≡ b) ⊎ (a ≡ b → ⊥)
-eq_or_ne_by a b true e = inl (eqb-true a b e)
-eq_or_ne_by a b false e = inr (eqb-false a b e)
+le_or_lt a b = ⊎_elim inr inl (cases_lt b a)
 
 pub eq_or_ne : (a b : ℕ) → (a ≡ b) ⊎ (a ≡ b → ⊥)
-eq_or_ne a b = eq_or_ne_by a b (eqb a b) refl
+eq_or_ne = cases_eq
 
 pub true_not_false : true ≡ false → ⊥
-true_not_false e = let z : ◌≡◌ {A = ℕ} 1 0 = ap (λ (t : Bool). cond t 1 0) e in omega arith
+true_not_false = true≢false
 
 pub true_or_false : (a : Bool) → (a ≡ true) ⊎ (a ≡ false)
 true_or_false true = inl refl
