@@ -1,4 +1,5 @@
 // A strand's matches as walks over columns: row p + 1 begins in column firsts[p], and after column j comes column nexts[j - 1]; 0 ends a row.
+// kept: that 0, in the arrays and in `at`, since FirstColumns and NextColumns say it and the arrays are fixed memory; who walks sees an iterator.
 ghost use Rattle.std.specs.Prelude.{◌≡◌, ◌-◌, ◌<◌, ◌≤◌, length, slice_index, MatchOption};
 ghost use Rattle.std.specs.Iterator.{item_count};
 ghost use Rattle.matches.specs.Walks.{row_from, Steps, NextsSafe, WalkSafe};

@@ -16,6 +16,8 @@ mod ring;
 
 pub use ring::Ring;
 
+// kept: `latest` has one more than a running number, and 0 for none, since `Columns` of Index.antt says so and the array is fixed memory.
+
 // The records so far, by their running numbers: `head` of them, those from `tail` on in the ring, those from `from` on of the latest row; and the gap
 // bound.
 #[derive(Clone, Copy)]
