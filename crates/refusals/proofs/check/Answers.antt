@@ -40,29 +40,29 @@ returns-in_err-check_settings c =
     let a = c.args in
     refuses (after_settings a.c a.first.now a.second.now) (in_pieces a.c a.first.now a.second.now) (settings_refuse a.c) c.in_err-check_settings.field-0.0 c.from_residual.result c.from_residual.ensures.1 c.in_err-check_settings.ensures
 
-pub returns-in_err-check_length : goal.returns-in_err-check_length
-returns-in_err-check_length c =
+pub returns-in_err-length_of : goal.returns-in_err-length_of
+returns-in_err-length_of c =
     let a = c.args in
     refuses (after_first_length a.c a.first.now a.second.now) (past_settings a.c a.first.now a.second.now c.in_ok-check_settings.ensures)
-    (length_refuses 1 (length a.first.now)) c.in_err-check_length.field-0.0 c.from_residual-in_err-check_length.result c.from_residual-in_err-check_length.ensures.1 c.in_err-check_length.ensures
+    (length_refuses 1 (length a.first.now)) c.in_err-length_of.field-0.0 c.from_residual-in_err-length_of.result c.from_residual-in_err-length_of.ensures.1 c.in_err-length_of.ensures
 
-pub returns-in_err-check_length-2 : goal.returns-in_err-check_length-2
-returns-in_err-check_length-2 c =
+pub returns-in_err-length_of-2 : goal.returns-in_err-length_of-2
+returns-in_err-length_of-2 c =
     let a = c.args in
     refuses (after_second_length a.c a.first.now a.second.now)
-    (past_first_length a.c a.first.now a.second.now c.in_ok-check_settings.ensures c.in_ok-check_length.ensures)
-    (length_refuses 2 (length a.second.now)) c.in_err-check_length-2.field-0.0 c.from_residual-in_err-check_length-2.result c.from_residual-in_err-check_length-2.ensures.1 c.in_err-check_length-2.ensures
+    (past_first_length a.c a.first.now a.second.now c.in_ok-check_settings.ensures c.in_ok-length_of.ensures)
+    (length_refuses 2 (length a.second.now)) c.in_err-length_of-2.field-0.0 c.from_residual-in_err-length_of-2.result c.from_residual-in_err-length_of-2.ensures.1 c.in_err-length_of-2.ensures
 
-pub returns-in_err-check_letters : goal.returns-in_err-check_letters
-returns-in_err-check_letters c =
+pub returns-in_err-letters_of : goal.returns-in_err-letters_of
+returns-in_err-letters_of c =
     let a = c.args in
     refuses (after_first_letters a.c a.first.now a.second.now)
-    (past_second_length a.c a.first.now a.second.now c.in_ok-check_settings.ensures c.in_ok-check_length.ensures c.in_ok-check_length-2.ensures)
-    (letters_refuse 1 a.first.now) c.in_err-check_letters.field-0.0 c.from_residual-in_err-check_letters.result c.from_residual-in_err-check_letters.ensures.1 c.in_err-check_letters.ensures
+    (past_second_length a.c a.first.now a.second.now c.in_ok-check_settings.ensures c.in_ok-length_of.ensures c.in_ok-length_of-2.ensures)
+    (letters_refuse 1 a.first.now) c.in_err-letters_of.field-0.0 c.from_residual-in_err-letters_of.result c.from_residual-in_err-letters_of.ensures.1 c.in_err-letters_of.ensures
 
 pub returns : goal.returns
 returns c =
     let a = c.args in
-    c.check_letters-2.ensures
-    ∙ sym (past_first_letters a.c a.first.now a.second.now c.in_ok-check_settings.ensures c.in_ok-check_length.ensures c.in_ok-check_length-2.ensures
-    c.in_ok-check_letters.ensures)
+    c.letters_of-2.ensures
+    ∙ sym (past_first_letters a.c a.first.now a.second.now c.in_ok-check_settings.ensures c.in_ok-length_of.ensures c.in_ok-length_of-2.ensures
+    c.in_ok-letters_of.ensures)
