@@ -1,5 +1,7 @@
 // A job that the checks let pass, from the codes of its first sequence and the letters of its second: matched, and then compared, stopped after a row, or
 // only measured. The codes can serve any number of second sequences.
+// kept: three functions here and two in `admitted`, alike in their arrays: what tells the matches and what is done with them differ, and a closure for either
+// would be handed more than it spares. The arrays are fixed memory.
 #![tactic(auto)]
 
 ghost use Rattle.std.specs.Prelude.{◌≡◌, []};

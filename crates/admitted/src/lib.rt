@@ -1,5 +1,6 @@
 // A job that the checks let pass and whose index is right: matched over the index, and then compared or stopped after a row, as `accepted` does it over the
 // letters.
+// kept: alike to `accepted`, as told there.
 #![tactic(auto)]
 
 ghost use Rattle.std.specs.Prelude.{◌≡◌, []};

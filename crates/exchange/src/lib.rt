@@ -7,6 +7,7 @@ ghost use Rattle.exchange.specs.Whole.{output_length, output_left};
 use kinds::Refused;
 
 // Answers an input in an output slice of at least 9,038 bytes, and returns how many of them it wrote. A shorter slice is left as it is, and 0 is returned.
+// kept: that 0, as `output_length` and the theorems on it say.
 pub fn answer(input: &[u8], output: &mut [u8]) -> usize
     ensures value { result ≡ output_length input.now output.old }
     ensures output_after { output.new ≡ output_left input.now output.old }

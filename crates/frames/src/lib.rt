@@ -129,6 +129,7 @@ fn write_kind(kind: u32, values: &[u64], line: &mut [u8]) -> Result<usize, Frame
 }
 
 // Writes the frame of any kind: the length of its line with the line feed, or 4,294,967,296 plus 27 and the slice untouched.
+// kept: a reply and a kind that are numbers, here and in read_frame: they cross the C boundary as they are.
 pub fn write_frame(kind: u32, values: &[u64], line: &mut [u8]) -> u64
     ensures { (result ≡ frame_reply kind values.now line.old) × (line.new ≡ frame_left kind values.now line.old) }
 {
