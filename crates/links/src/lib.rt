@@ -1,7 +1,7 @@
 // The link total of a job, counted from its matches before any record is made: how many left extensions all matches have together.
 #![tactic(auto)]
 
-ghost use Rattle.std.specs.Prelude.{◌≡◌, ◌<◌, length};
+ghost use Rattle.std.specs.Prelude.{◌≡◌, ◌<◌, ◌≤◌, length};
 ghost use Rattle.rules.specs.Rooms.{pairs};
 ghost use Rattle.matches.specs.Walks.{walked};
 ghost use Rattle.windows.specs.Windows.{WindowHolds};
@@ -12,9 +12,10 @@ use windows::Window;
 
 // Takes a row's matches off the counts of their columns, and off what the window holds. One step a match.
 fn release_row(row: Columns, counts: &mut [u32; 16385], window: Window) -> Window
-    requires { WindowHolds counts.old window.b window.at window.held }
+    requires few_columns { length row.nexts.now ≤ 16384 }
+    requires window_holds { WindowHolds counts.old window.b window.at window.held }
     ensures row_released { RowReleased row.entry.nexts.now row.entry.at counts.old counts.new }
-    ensures window_holds { WindowHolds counts.new result.b result.at result.held }
+    ensures window_holds_2 { WindowHolds counts.new result.b result.at result.held }
     ensures same_bound { result.b ≡ window.b }
 {
     let mut left = window;
@@ -50,9 +51,10 @@ struct Linking {
 // window, columns j - b to j, holds before it does. No sum wraps: at most 2^28 matches are counted, so that there are at most 2^56 links. A match
 // costs two columns for each that its window has moved on, and never more than b + 1.
 fn add_row(row: Columns, counts: &mut [u32; 16385], links: Linking) -> Linking
-    requires { WindowHolds counts.old links.window.b links.window.at links.window.held }
+    requires few_columns { length row.nexts.now ≤ 16384 }
+    requires window_holds { WindowHolds counts.old links.window.b links.window.at links.window.held }
     ensures row_added { RowAdded row.entry.nexts.now row.entry.at links.window.b counts.old counts.new links.total result.total }
-    ensures window_holds { WindowHolds counts.new result.window.b result.window.at result.window.held }
+    ensures window_holds_2 { WindowHolds counts.new result.window.b result.window.at result.window.held }
     ensures same_bound { result.window.b ≡ links.window.b }
 {
     let Linking { total, window } = links;

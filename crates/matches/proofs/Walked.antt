@@ -14,10 +14,14 @@ use Rattle.rules.specs.Lists.{any_of}
 use Rattle.rules.specs.Matches.{cell, row_to, matches_to}
 use Rattle.rules.proofs.Bounds.{few_matches}
 use Rattle.order.proofs.Cases.{le_or_lt, eq_or_ne, true_not_false}
-use Rattle.matches.specs.Walks.{NextMatch, none_left, next_is, RowWalk, walk, row_from, on_walk, walks_to, walked_to, NextsSafe, WalkSafe, Described}
+use Rattle.matches.specs.Walks.{NextMatch, none_left, next_is, RowWalk, walk, row_from, on_walk, walks_to, walked_to, StepsSafe, NextsSafe, WalkSafe, Described}
 use Rattle.matches.proofs.Walking.{walk_zero, walk_is_row}
 
-module _ {nexts : List ℕ} (safe : NextsSafe nexts) where
+-- of few columns or many
+pub steps_safe : {nexts : List ℕ} → NextsSafe nexts → StepsSafe nexts
+steps_safe safe = record { inside = safe.inside; rising = safe.rising }
+
+module _ {nexts : List ℕ} (safe : StepsSafe nexts) where
   -- steps for every column from x on are enough, and more change nothing
   steps_same : (f g x : ℕ) → x ≤ length nexts → (1 ≤ x → length nexts < f + x) → (1 ≤ x → length nexts < g + x) → walk nexts f x ≡ walk nexts g x
   unfolding walk
@@ -119,7 +123,7 @@ module _ {firsts nexts : List ℕ} (safe : WalkSafe firsts nexts) where
   pub safe_described : Described (walks_to firsts nexts) (length nexts) firsts nexts
   unfolding walks_to
   safe_described = record {
-    rows = λ p l. row_walked safe.nexts_safe (safe.starts p) (λ q. let back : suc p - 1 ≡ p = omega arith in rw back);
+    rows = λ p l. row_walked (steps_safe safe.nexts_safe) (safe.starts p) (λ q. let back : suc p - 1 ≡ p = omega arith in rw back);
     narrow = safe.nexts_safe.few_columns;
   }
 

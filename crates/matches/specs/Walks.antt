@@ -58,6 +58,11 @@ walked_need b firsts nexts = largest_run b (walked firsts nexts) (length firsts)
 
 -- ---- what safety needs
 
+-- each step of a walk stays inside the columns, and rises until it ends
+pub record StepsSafe (nexts : List ℕ) : Type 0 where
+  pub inside : (q : ℕ) → get_or nexts q 0 ≤ length nexts
+  pub rising : (q : ℕ) → 1 ≤ get_or nexts q 0 → suc q < get_or nexts q 0
+
 -- a walk stays inside the columns, and rises until it ends
 pub record NextsSafe (nexts : List ℕ) : Type 0 where
   pub few_columns : length nexts ≤ 16384

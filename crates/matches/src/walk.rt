@@ -2,7 +2,7 @@
 // kept: that 0, in the arrays and in `at`, since FirstColumns and NextColumns say it and the arrays are fixed memory; who walks sees an iterator.
 ghost use Rattle.std.specs.Prelude.{◌≡◌, ◌-◌, ◌<◌, ◌≤◌, length, slice_index, MatchOption};
 ghost use Rattle.std.specs.Iterator.{item_count};
-ghost use Rattle.matches.specs.Walks.{row_from, Steps, NextsSafe, WalkSafe};
+ghost use Rattle.matches.specs.Walks.{row_from, Steps, StepsSafe, WalkSafe};
 
 // The matches of a strand. Rows and columns are few, and each step of a walk is to a later column.
 #[derive(Clone, Copy)]
@@ -52,7 +52,7 @@ impl<'a> Walk<'a> {
 pub struct Columns<'a> {
     pub nexts: &'a [u32],
     pub at: usize,
-    pub ghost safe: { NextsSafe nexts.now },
+    pub ghost safe: { StepsSafe nexts.now },
     pub ghost inside: { at ≤ length nexts.now },
 }
 

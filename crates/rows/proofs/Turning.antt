@@ -8,7 +8,7 @@ use Rattle.rules.specs.Records.{record_of}
 use Rattle.rules.proofs.Tests.{Three, below, equal, above, three}
 use Rattle.rules.proofs.Starts.{record_cell}
 use Rattle.rules.proofs.Sweeps.{swept_to, swept_hit, swept_miss}
-use Rattle.matches.specs.Walks.{NextMatch, none_left, next_is, RowWalk}
+use Rattle.matches.specs.Walks.{StepsSafe, NextMatch, none_left, next_is, RowWalk}
 use Rattle.predecessors.specs.declared.ring.Ring.{Ring}
 use Rattle.predecessors.specs.Numbers.{nth}
 use Rattle.predecessors.specs.Index.{Nearest, has_near, Ready}
@@ -251,3 +251,9 @@ module _ {b i : ℕ} {room₀ latest₀ nexts : List ℕ} {ring : Ring} {tail he
             let u = v.state hit columns k ei l f w in
             let o = row_over b hit columns k room latest ring tail head near column from j u f e in
             rw o (u.machine, u.counted)
+
+-- the row's iterator asks no more than storing a row does
+pub row_steps : {room latest nexts : List ℕ} {ring : Ring} {head start i : ℕ} → RowSafe room latest nexts ring head start i
+    → StepsSafe nexts × (start ≤ length nexts)
+row_steps s =
+    (record { inside = λ q. omega (arith, s.inside q, s.known); rising = s.rising }, omega (arith, s.begin, s.known))

@@ -15,7 +15,7 @@ loop-p-preserved c =
     record {
       linked = link_next v.linked c.args.walk.safe (omega arith) (rw v.same_bound at out.released)
           (rw (c.row.ensures.nexts, c.row.ensures.begins, out.same_bound, v.same_bound) at enters.row_added);
-      window_holds = enters.window_holds;
+      window_holds = enters.window_holds_2;
       same_bound = enters.same_bound ∙ out.same_bound ∙ v.same_bound;
     }
 

@@ -6,7 +6,7 @@ use Rattle.matches.proofs.Stepping.{columns_listed}
 use Rattle.tally.proofs.row_size.Goals as goal
 
 pub count-requires-clause-fits : goal.count-requires-clause-fits
-count-requires-clause-fits c = inl (omega (arith, row_few c.args.columns.nexts.now c.args.columns.at, c.args.columns.safe.few_columns))
+count-requires-clause-fits c = inl (omega (arith, row_few c.args.columns.nexts.now c.args.columns.at))
 
 pub returns : goal.returns
 returns c = count_from_yields_List c.args.columns c.count.result c.count.ensures.ran (columns_listed c.args.columns)
