@@ -8,8 +8,9 @@ use native.Mathlib.Numerals.{add-one}
 use borrow.Author.Tests.{lt-ltb, le-ltb}
 use lib.Dec.{T, ltb}
 use lib.ListN.{length, get_or, take}
-use Rattle.std.proofs.Common.{count_by, nat_eq, Option, Some, None}
-use Rattle.std.specs.Bool.{then_some}
+use Rattle.std.proofs.Common.{count_by, nat_eq, Result, Ok, Err}
+use Rattle.index.specs.declared.WrongSlice.{WrongSlice}
+use Rattle.index.specs.Held.{held_of}
 use lib.Seq.{take-length}
 use Rattle.std.proofs.lemmas.Bool.Decides.{nat_tests}
 use Rattle.std.proofs.lemmas.List.Sums.{count_by_more_yes, count_by_more_no}
@@ -153,10 +154,10 @@ held_indexed {codes} {index} t room k =
     record { begins = t; long = omega (arith, few_kmers codes, k.long); key = λ q l. k.key q (rw all l) }
 
 -- what `index::check` returns says whether it does, and how many numbers the index has
-pub held_some : (b : Bool) (m : ℕ) {n : ℕ} {r : Option ℕ} → r ≡ then_some b m → r ≡ Some n → (b ≡ true) × (n ≡ m)
-held_some true m e d = (refl, cc)
-held_some false m e d = cc
+pub held_right : (b : Bool) (m : ℕ) {n : ℕ} {r : Result ℕ WrongSlice} → r ≡ held_of b m → r ≡ Ok n → (b ≡ true) × (n ≡ m)
+held_right true m e d = (refl, cc)
+held_right false m e d = cc
 
-pub held_none : (b : Bool) (m : ℕ) {r : Option ℕ} → r ≡ then_some b m → r ≡ None → b ≡ false
-held_none true m e d = cc
-held_none false m e d = refl
+pub held_wrong : (b : Bool) (m : ℕ) {n : WrongSlice} {r : Result ℕ WrongSlice} → r ≡ held_of b m → r ≡ Err n → b ≡ false
+held_wrong true m e d = cc
+held_wrong false m e d = refl

@@ -1,2 +1,3 @@
 -- What a pass over a given slice reads, and what one turn of it decides.
 pub mod Keys
+pub mod Held

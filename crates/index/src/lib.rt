@@ -3,7 +3,7 @@
 #![tactic(auto)]
 
 ghost use Rattle.std.specs.Prelude.{◌≡◌, ◌≤◌, length};
-ghost use Rattle.std.specs.Bool.{then_some};
+ghost use Rattle.index.specs.Held.{held_of};
 ghost use Rattle.rules.specs.Codes.{code_at};
 ghost use Rattle.requests.specs.Index.{index_of_codes, kmer_places, begins_with};
 ghost use Rattle.index.specs.Keys.{Keyed, Indexed, numbers_read, goes_on};
@@ -77,17 +77,28 @@ fn begins(codes: &[u64], index: &[u32], keys: &[u64], n: usize) -> bool
     true
 }
 
-// Holds a slice against the codes: how many places have a k-mer, where it begins with their index. One that is not too short leaves the codes of its
+// A slice that does not begin with the index of some codes, which has so many places.
+#[derive(Clone, Copy, Debug, PartialEq, Eq)]
+pub struct WrongSlice {
+    pub places: usize,
+}
+
+// Holds a slice against the codes: whether it begins with their index, and how many places that has. One that is not too short leaves the codes of its
 // numbers in keys.
-pub fn check(codes: &[u64], index: &[u32], keys: &mut [u64]) -> Option<usize>
+pub fn check(codes: &[u64], index: &[u32], keys: &mut [u64]) -> Result<usize, WrongSlice>
     requires { length codes.now ≤ length keys.old }
-    ensures value { result ≡ then_some (begins_with (index_of_codes codes.now) index.now) (kmer_places codes.now) }
+    ensures value { result ≡ held_of (begins_with (index_of_codes codes.now) index.now) (kmer_places codes.now) }
     ensures keyed { Keyed codes.now index.now keys.old keys.new (numbers_read (kmer_places codes.now) index.now) }
 {
     let places = count_kmers(codes);
     if index.len() < places {
-        return None;
+        return Err(WrongSlice { places });
     }
     read_keys(codes, index, places, keys);
-    begins(codes, index, keys, places).then_some(places)
+    let right = begins(codes, index, keys, places);
+    if right {
+        Ok(places)
+    } else {
+        Err(WrongSlice { places })
+    }
 }

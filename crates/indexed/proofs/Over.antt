@@ -1,7 +1,8 @@
 -- The entry points over an index: refused by the checks or for the slice, with the rooms as they were, or the plain job. Assumes nothing.
-use Rattle.std.proofs.Common.{◌≡◌, ℕ, ◌≤◌, List, [], ◌++◌, length, take, T, Option, Some, None, Result, refl, sym, ap, subst, ◌∙◌, arith}
+use Rattle.std.proofs.Common.{◌≡◌, ℕ, ◌≤◌, List, [], ◌++◌, length, take, T, Result, Ok, Err, refl, sym, ap, subst, ◌∙◌, arith}
 use mathlib.Core.Path.{subst⁻¹}
-use Rattle.std.specs.Bool.{then_some}
+use Rattle.index.specs.declared.WrongSlice.{WrongSlice}
+use Rattle.index.specs.Held.{held_of}
 use Rattle.std.specs.Result.{IsErrAnd}
 use Rattle.rules.specs.declared.Settings.{Settings}
 use Rattle.rules.specs.Letters.{as_read}
@@ -19,7 +20,7 @@ use Rattle.answers.proofs.Exits.{answer_exit}
 use Rattle.refusals.proofs.Checking.{accepted}
 use Rattle.kmers.proofs.Codes.{coded_front, places_few}
 use Rattle.index.specs.Keys.{Keyed, Indexed, numbers_read}
-use Rattle.index.proofs.Passes.{held_some, held_none, held_indexed}
+use Rattle.index.proofs.Passes.{held_right, held_wrong, held_indexed}
 use Rattle.mirrored.specs.Mirrored.{FirstFits}
 use Rattle.compare.specs.Ready.{Ready}
 use Rattle.compare.proofs.Entries.{not_passed, refuses, refuses_stop, number_passed}
@@ -71,7 +72,7 @@ module _ (c : Settings) (s t : List ℕ) {coded : List ℕ} (y : Ready c s t cod
 
 -- a slice held against the codes of a second sequence, which stand in front of an array
 module _ (c : Settings) (t index rest : List ℕ) {out : List ℕ} {columns : ℕ} (n : columns ≡ places c.k t) (d : out ≡ codes c.k (as_read c.mask t) ++ rest)
-    {held : Option ℕ} (v : held ≡ then_some (begins_with (index_of_codes (take columns out)) index) (kmer_places (take columns out))) where
+    {held : Result ℕ WrongSlice} (v : held ≡ held_of (begins_with (index_of_codes (take columns out)) index) (kmer_places (take columns out))) where
   codes_are : take columns out ≡ codes_of c.k c.mask t
   unfolding codes_of
   codes_are = (coded_front _ _ _ rest n d).front
@@ -83,16 +84,16 @@ module _ (c : Settings) (t index rest : List ℕ) {out : List ℕ} {columns : �
   pub few_codes : 1 ≤ c.k → length t ≤ 16384 → length (take columns out) ≤ 16384
   few_codes k l = omega (arith, (coded_front _ _ _ rest n d).long, n, places_few c.k t k l)
 
-  pub is_wrong : held ≡ None → Wrong c t index WrongIndex
-  is_wrong e = record { wrong = λ u. subst T (sym begins_is ∙ held_none _ _ v e) u; because = refl }
+  pub is_wrong : {e : WrongSlice} → held ≡ Err e → Wrong c t index WrongIndex
+  is_wrong e = record { wrong = λ u. subst T (sym begins_is ∙ held_wrong _ _ v e) u; because = refl }
 
-  module _ {places : ℕ} (e : held ≡ Some places) where
+  module _ {places : ℕ} (e : held ≡ Ok places) where
     pub is_right : Found c t index (take columns out)
-    is_right = record { right = subst⁻¹ T (sym begins_is ∙ (held_some _ _ v e).0) tt; codes_are = codes_are }
+    is_right = record { right = subst⁻¹ T (sym begins_is ∙ (held_right _ _ v e).0) tt; codes_are = codes_are }
 
     pub is_counted : places ≡ kmer_places (take columns out)
-    is_counted = (held_some _ _ v e).1
+    is_counted = (held_right _ _ v e).1
 
     pub is_indexed : {keys₀ keys : List ℕ} → length (take columns out) ≤ length keys₀
         → Keyed (take columns out) index keys₀ keys (numbers_read (kmer_places (take columns out)) index) → Indexed (take columns out) index keys
-    is_indexed room keyed = held_indexed (subst⁻¹ T (held_some _ _ v e).0 tt) room keyed
+    is_indexed room keyed = held_indexed (subst⁻¹ T (held_right _ _ v e).0 tt) room keyed

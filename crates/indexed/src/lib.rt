@@ -27,15 +27,16 @@ fn look_up<'a>(
 {
     let columns = kmers::code_all(second, settings.k, settings.mask, codes);
     let codes = &codes[..columns];
-    let Some(places) = index::check(codes, index, keys) else {
-        return Err(Refusal::WrongIndex);
-    };
-    Ok(Lookup {
-        codes,
-        index,
-        keys,
-        places,
-    })
+    let held = index::check(codes, index, keys);
+    match held {
+        Ok(places) => Ok(Lookup {
+            codes,
+            index,
+            keys,
+            places,
+        }),
+        Err(_) => Err(Refusal::WrongIndex),
+    }
 }
 
 // The compare job. Checks 1 to 6, with 9 and 10 after 4, then 12, 7 and 8: the first that applies.
