@@ -1,5 +1,5 @@
 -- What is wrong with a line before its payload is looked at, by the tests that say so. Assumes nothing.
-use Rattle.std.proofs.Common.{◌≡◌, ◌≢◌, ℕ, ◌≤◌, Bool, true, false, cond, ◌&&◌, eqb, leb, refl, sym, ap, ◌∙◌, arith, ne_eqb, eqb-true, leb-true, Result, Ok, Err}
+use Rattle.std.proofs.Common.{◌≡◌, ◌≢◌, ℕ, zero, suc, ◌≤◌, Bool, true, false, cond, ◌&&◌, eqb, leb, refl, sym, ap, ◌∙◌, arith, ne_eqb, eqb-true, leb-true, Result, Ok, Err}
 use Rattle.std.proofs.lemmas.Bool.{eqb-false}
 use Rattle.lines.specs.declared.error.FrameError.{FrameError}
 use Rattle.lines.specs.Errors.{number_of, number_in}
@@ -10,7 +10,7 @@ use Rattle.kinds.specs.Kind.{kind_byte}
 use Rattle.turns.specs.declared.Turn.{Turn}
 use Rattle.turns.specs.declared.Turn.TheVariants as turn
 use Rattle.turns.specs.Turns.{known_kind, in_turn, frame_number}
-use Rattle.turns.specs.States.{turn_number, next_turn}
+use Rattle.turns.specs.States.{turn_number, turn_of, next_turn}
 
 module _ (turn : ℕ) (f : Frame) where
   line_wrong : (f.number ≡ 0 → ⊥) → f.number ≡ frame_number turn f
@@ -82,12 +82,27 @@ turn_right turn.First kind.Refused = refl
 turn_right turn.Second kind.Refused = refl
 turn_right turn.Ended kind.Refused = refl
 
-module _ (s : Turn) (k : Kind) {n : ℕ} (byte : kind_byte k ≡ n) where
-  pub may_come : {t : Turn} → Ok t ≡ next_turn s k → turn_wrong (turn_number s) n ≡ 0
-  may_come e = ap (turn_wrong (turn_number s)) (sym byte) ∙ sym (turn_right s k) ∙ ap number_in (sym e)
+-- of any number
+pub turn_same : (s n : ℕ) → turn_wrong (turn_number (turn_of s)) n ≡ turn_wrong s n
+unfolding turn_wrong in_turn
+turn_same zero n = refl
+turn_same (suc zero) n = refl
+turn_same (suc (suc zero)) n = refl
+turn_same (suc (suc (suc m))) n =
+    let a = ne_eqb (suc (suc (suc m))) 0 (λ e. omega arith) in
+    let b = ne_eqb (suc (suc (suc m))) 1 (λ e. omega arith) in
+    let c = ne_eqb (suc (suc (suc m))) 2 (λ e. omega arith) in
+    rw (a, b, c)
 
-  pub may_not_come : {e : FrameError} → Err e ≡ next_turn s k → number_of e ≡ turn_wrong (turn_number s) n
-  may_not_come h = ap number_in h ∙ turn_right s k ∙ ap (turn_wrong (turn_number s)) byte
+module _ (s : ℕ) {u : Turn} (is : u ≡ turn_of s) (k : Kind) {n : ℕ} (byte : kind_byte k ≡ n) where
+  told : number_in (next_turn u k) ≡ turn_wrong s n
+  told = ap (λ (v : Turn). number_in (next_turn v k)) is ∙ turn_right (turn_of s) k ∙ ap (turn_wrong (turn_number (turn_of s))) byte ∙ turn_same s n
+
+  pub may_come : {t : Turn} → Ok t ≡ next_turn u k → turn_wrong s n ≡ 0
+  may_come e = sym told ∙ ap number_in (sym e)
+
+  pub may_not_come : {e : FrameError} → Err e ≡ next_turn u k → number_of e ≡ turn_wrong s n
+  may_not_come h = ap number_in h ∙ told
 
 -- a kind that there is not is none of the input's
 pub no_kind : (turn n : ℕ) → ((k : Kind) → kind_byte k ≡ n → ⊥) → 23 ≡ turn_wrong turn n

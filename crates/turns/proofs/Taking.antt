@@ -24,10 +24,9 @@ use Rattle.readers.specs.Readers.{strand_in, job_in}
 use Rattle.payloads.proofs.Numbers.{number_same}
 use Rattle.pieces.specs.Taking.{piece_taken, piece_left}
 use Rattle.pieces.proofs.Pieces.{Landed, lands, rests, landed}
-use Rattle.turns.specs.declared.Turn.{Turn}
 use Rattle.turns.specs.declared.State.{State}
 use Rattle.turns.specs.Turns.{Progress, frame_number, payload_in, size_number, job_size, payload_number, line_number, after}
-use Rattle.turns.specs.States.{turn_number, progress_of, StateSafe, LineTaken}
+use Rattle.turns.specs.States.{progress_of, StateSafe, LineTaken}
 use Rattle.turns.proofs.Numbering.{is_frame, turn_wrong}
 
 -- an error has a number
@@ -96,18 +95,18 @@ module _ (line : List ℕ) (s : State) (first second : List ℕ) (safe : StateSa
     same_size = ap (λ (f : Frame). f.size) (sym read)
 
     -- 23 and 24
-    by_turn : frame_number (turn_number s.turn) (frame_in line) ≡ turn_wrong (turn_number s.turn) kind
+    by_turn : frame_number (s.turn) (frame_in line) ≡ turn_wrong (s.turn) kind
     unfolding frame_number turn_wrong
     by_turn = rw (← read)
 
-    pub turn_refused : {e : FrameError} → number_of e ≡ turn_wrong (turn_number s.turn) kind
+    pub turn_refused : {e : FrameError} → number_of e ≡ turn_wrong (s.turn) kind
         → LineTaken line s first second (Err e) first second
     unfolding line_number progress_of
     turn_refused {e} h = refuses e (rw (by_turn, ← h, ne_eqb (number_of e) 0 (some_number e)))
 
-    module _ (z : turn_wrong (turn_number s.turn) kind ≡ 0) where
+    module _ (z : turn_wrong (s.turn) kind ≡ 0) where
       found : FrameRead line
-      found = frame_read line (is_frame (turn_number s.turn) (frame_in line) (by_turn ∙ z))
+      found = frame_read line (is_frame (s.turn) (frame_in line) (by_turn ∙ z))
 
       -- what else may be wrong is wrong with the payload
       by_payload : line_number here line ≡ payload_number here kind (payload_in line)
@@ -153,7 +152,7 @@ module _ (line : List ℕ) (s : State) (first second : List ℕ) (safe : StateSa
             rw e
             (rw (number_is 2 1 (omega arith), number_is 3 2 (omega arith), number_is 5 2 (omega arith), number_is 7 2 (omega arith), number_is 9 1 (omega arith)))
 
-        pub job_taken : {t : Turn} {settings : Settings} → kind ≡ 1 → turn_number t ≡ 1 → size_number (job_size size) ≡ 0 → settings ≡ job_in size bytes
+        pub job_taken : {t : ℕ} {settings : Settings} → kind ≡ 1 → t ≡ 1 → size_number (job_size size) ≡ 0 → settings ≡ job_in size bytes
             → LineTaken line s first second (Ok (record { turn = t; settings = settings; first = s.first; second = s.second })) first second
         unfolding payload_number after progress_of
         job_taken k u r c =
@@ -173,7 +172,7 @@ module _ (line : List ℕ) (s : State) (first second : List ℕ) (safe : StateSa
       unfolding payload_number progress_of
       job_refused {e} k h = refuses e (by_payload ∙ rw (k, long_payload) (sym h))
 
-      pub first_taken : {payload more : List ℕ} {t : Turn} {count : ℕ} → kind ≡ 2 → turn_number t ≡ 1 → payload ≡ payload_in line
+      pub first_taken : {payload more : List ℕ} {t : ℕ} {count : ℕ} → kind ≡ 2 → t ≡ 1 → payload ≡ payload_in line
           → record { number = 0; count = count } ≡ piece_taken payload s.first → more ≡ piece_left payload s.first first
           → LineTaken line s first second (Ok (record { turn = t; settings = s.settings; first = count; second = s.second })) more second
       unfolding payload_number after progress_of
@@ -211,7 +210,7 @@ module _ (line : List ℕ) (s : State) (first second : List ℕ) (safe : StateSa
           go (rests p n l) = subst⁻¹ (λ (x : List ℕ). LineTaken line s first second (Err e) x second) l (refuses e (by_payload ∙ rw (k, held, ← is) p))
           go (lands p n f g tk dr) = absurd (some_number e n)
 
-      pub second_taken : {payload more : List ℕ} {t : Turn} {count : ℕ} → kind ≡ 3 → turn_number t ≡ 2 → payload ≡ payload_in line
+      pub second_taken : {payload more : List ℕ} {t : ℕ} {count : ℕ} → kind ≡ 3 → t ≡ 2 → payload ≡ payload_in line
           → record { number = 0; count = count } ≡ piece_taken payload s.second → more ≡ piece_left payload s.second second
           → LineTaken line s first second (Ok (record { turn = t; settings = s.settings; first = s.first; second = count })) first more
       unfolding payload_number after progress_of
@@ -250,7 +249,7 @@ module _ (line : List ℕ) (s : State) (first second : List ℕ) (safe : StateSa
           go (lands p n f g tk dr) = absurd (some_number e n)
 
       -- an end has no payload
-      pub end_taken : {t : Turn} → kind ≡ 4 → turn_number t ≡ 3 → size ≡ 0
+      pub end_taken : {t : ℕ} → kind ≡ 4 → t ≡ 3 → size ≡ 0
           → LineTaken line s first second (Ok (record { turn = t; settings = s.settings; first = s.first; second = s.second })) first second
       unfolding payload_number size_number after progress_of
       end_taken k u n =

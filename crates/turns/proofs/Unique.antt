@@ -5,11 +5,9 @@ use lib.Seq.{length-take-le}
 use Rattle.lines.specs.declared.error.FrameError.{FrameError}
 use Rattle.lines.specs.Errors.{number_in}
 use Rattle.lines.proofs.Unique.{one_error}
-use Rattle.turns.specs.declared.Turn.{Turn}
-use Rattle.turns.specs.declared.Turn.TheVariants.{Job, First, Second, Ended}
 use Rattle.turns.specs.declared.State.{State}
 use Rattle.turns.specs.Turns.{Progress}
-use Rattle.turns.specs.States.{turn_number, reached, progress_of, StateSafe, LineTaken}
+use Rattle.turns.specs.States.{reached, progress_of, StateSafe, LineTaken}
 use Rattle.turns.proofs.Taking.{some_number}
 
 -- a buffer is its letters, of which the count is known, and what is behind them
@@ -19,20 +17,6 @@ buffer_one old x y n m room lx ly hn hm front dx dy =
     let same : n ≡ m = sym (length-take-le n x (omega arith)) ∙ ap length front ∙ length-take-le m y (omega arith) in
     let rest : drop n x ≡ drop m y = dx ∙ ap (λ (k : ℕ). drop k old) same ∙ sym dy in
     (same, sym (take-append-drop n x) ∙ (λ i. front i ++ rest i) ∙ take-append-drop m y)
-
--- the grammar's numbers tell what may come next apart
-turn_of : ℕ → Turn
-turn_of n = cond (eqb n 0) Job (cond (eqb n 1) First (cond (eqb n 2) Second Ended))
-
-turn_back : (t : Turn) → turn_of (turn_number t) ≡ t
-unfolding turn_of
-turn_back Job = refl
-turn_back First = refl
-turn_back Second = refl
-turn_back Ended = refl
-
-one_turn : (t u : Turn) → turn_number t ≡ turn_number u → t ≡ u
-one_turn t u h = sym (turn_back t) ∙ ap turn_of h ∙ turn_back u
 
 -- an answer is its number and the state that it leads to
 one_answer : (s : State) (r q : Result State FrameError) → number_in r ≡ number_in q → reached s r ≡ reached s q → r ≡ q
@@ -52,12 +36,11 @@ lines_one {s = s} {first = first} {second = second} safe {r} {q} {f₁} {f₂} {
     let p = a.progress ∙ sym b.progress in
     let x = reached s r in
     let y = reached s q in
-    let t = one_turn x.turn y.turn (ap (λ (x : Progress). x.turn) p) in
     let f = buffer_one first f₁ f₂ x.first y.first safe.first_room lf₁ lf₂ a.first_most b.first_most
     (ap (λ (x : Progress). x.first) p) a.first_rest b.first_rest in
     let g = buffer_one second s₁ s₂ x.second y.second safe.second_room ls₁ ls₂ a.second_most b.second_most
     (ap (λ (x : Progress). x.second) p) a.second_rest b.second_rest in (
-      one_answer s r q (a.number ∙ sym b.number) (λ i. record { turn = t i; settings = (p i).settings; first = f.0 i; second = g.0 i }),
+      one_answer s r q (a.number ∙ sym b.number) (λ i. record { turn = (p i).turn; settings = (p i).settings; first = f.0 i; second = g.0 i }),
       f.1,
       g.1,
     )

@@ -1,5 +1,5 @@
 -- What the reader's functions hand on: the grammar's progress, with the letters in the two lent buffers and their counts in the state. Assumes nothing.
-use Rattle.std.specs.Prelude.{◌≡◌, cond, List, ℕ, ◌≤◌, eqb, length, take, drop, Result, Ok, Err}
+use Rattle.std.specs.Prelude.{◌≡◌, cond, List, ℕ, zero, suc, ◌≤◌, eqb, length, take, drop, Result, Ok, Err}
 use Rattle.lines.specs.declared.error.FrameError.{FrameError}
 use Rattle.lines.specs.declared.error.FrameError.TheVariants.{WrongKind, OutOfTurn}
 use Rattle.lines.specs.Errors.{number_in}
@@ -16,6 +16,13 @@ turn_number turn.Job = 0
 turn_number turn.First = 1
 turn_number turn.Second = 2
 turn_number turn.Ended = 3
+
+-- and back: nothing comes past the end
+abbrev pub turn_of : ℕ → Turn
+turn_of zero = turn.Job
+turn_of (suc zero) = turn.First
+turn_of (suc (suc zero)) = turn.Second
+turn_of (suc (suc (suc n))) = turn.Ended
 
 -- what may come after a frame of a kind, or that the kind may not come
 abbrev pub next_turn : Turn → Kind → Result Turn FrameError
@@ -42,7 +49,7 @@ reached s (Err e) = s
 -- the progress that a state and two buffers hold
 unfoldable pub progress_of : State → List ℕ → List ℕ → Progress
 progress_of s first second =
-    record { turn = turn_number s.turn; settings = s.settings; first = take s.first first; second = take s.second second }
+    record { turn = s.turn; settings = s.settings; first = take s.first first; second = take s.second second }
 
 -- there is room for 16,384 letters of each sequence, and no more are held
 pub record StateSafe (s : State) (first second : List ℕ) : Type 0 where

@@ -5,7 +5,7 @@ ghost use Rattle.std.specs.Prelude.{◌≡◌, ◌≤◌, length, IfOk};
 ghost use Rattle.lines.specs.Errors.{number_in};
 ghost use Rattle.readers.specs.Readers.{job_in};
 ghost use Rattle.turns.specs.Turns.{job_size, size_number};
-ghost use Rattle.turns.specs.States.{next_turn, StateSafe, LineTaken};
+ghost use Rattle.turns.specs.States.{turn_number, turn_of, next_turn, StateSafe, LineTaken};
 
 use kinds::Kind;
 use lines::FrameError;
@@ -13,7 +13,7 @@ use rules::Settings;
 
 // What may come next: the job; a piece of the first sequence, one of the second or the end; the same but for the first sequence; nothing.
 #[derive(Clone, Copy, Debug, PartialEq, Eq)]
-pub enum Turn {
+enum Turn {
     Job,
     First,
     Second,
@@ -21,6 +21,29 @@ pub enum Turn {
 }
 
 impl Turn {
+    // The turn of a state's number: past the end nothing comes, whatever the number is.
+    fn of(number: u64) -> Turn
+        ensures { result ≡ turn_of number }
+    {
+        match number {
+            0 => Turn::Job,
+            1 => Turn::First,
+            2 => Turn::Second,
+            _ => Turn::Ended,
+        }
+    }
+
+    fn number(self) -> u64
+        ensures { result ≡ turn_number self }
+    {
+        match self {
+            Turn::Job => 0,
+            Turn::First => 1,
+            Turn::Second => 2,
+            Turn::Ended => 3,
+        }
+    }
+
     // 23 and 24: what may come after a frame of a kind. A job comes first, then pieces of the first sequence, those of the second and the end. Nothing comes
     // after the end.
     fn after(self, kind: Kind) -> Result<Turn, FrameError>
@@ -40,9 +63,10 @@ impl Turn {
 
 // What the lines so far have said: what may come next, the settings and how many letters each sequence has.
 // kept: the counts stand here and the lent buffers beside: docs/MAP.md names `pieces::take_piece`, `turns::take_line` and `input::read_input`, which lend slices
+// kept: the turn is a number, 0 to 3 as `Turn` tells them: docs/MAP.md names `take_line`, which takes any, and `Progress` of specs/Turns.antt has it so
 #[derive(Clone, Copy)]
 pub struct State {
-    pub turn: Turn,
+    pub turn: u64,
     pub settings: Settings,
     pub first: usize,
     pub second: usize,
@@ -85,7 +109,8 @@ pub fn take_line(
     let mut bytes = [0u8; 67];
     let frame = decoding::read_line(line, &mut bytes)?;
     let kind = Kind::try_from(frame.kind)?;
-    let turn = s.turn.after(kind)?;
+    let next = Turn::of(s.turn).after(kind)?;
+    let turn = next.number();
     let payload = &bytes[2..frame.size + 2];
     match kind {
         Kind::Job => {
