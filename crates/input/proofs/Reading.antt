@@ -6,10 +6,9 @@ use Rattle.lines.specs.declared.error.FrameError.{FrameError}
 use Rattle.lines.specs.declared.error.FrameError.TheVariants.{OutOfTurn}
 use Rattle.lines.specs.Errors.{number_of, number_in}
 use Rattle.lines.specs.Writing.{in_front}
-use Rattle.turns.specs.declared.Turn.TheVariants.{Job}
 use Rattle.turns.specs.declared.State.{State}
 use Rattle.turns.specs.Turns.{Progress, line_number, after}
-use Rattle.turns.specs.States.{turn_number, reached, progress_of, StateSafe, LineTaken}
+use Rattle.turns.specs.States.{reached, progress_of, StateSafe, LineTaken}
 use Rattle.turns.proofs.Taking.{some_number}
 use Rattle.input.specs.declared.Input.{Input}
 use Rattle.input.specs.declared.BadLine.{BadLine}
@@ -41,7 +40,7 @@ pub record Reading (input before-first before-second : List ℕ) (s : State) (re
   pub second_rest : drop s.second second ≡ drop s.second before-second
   pub ahead : input_of input ≡ read_lines (progress_of s first second) passed (lines_of rest)
 
-pub reading_start : {input first second : List ℕ} → Reading input first second (record { turn = Job; settings = record { k = 0; b = 0; a = 0; m = 0; strand = 0; mask = 0 }; first = 0; second = 0 }) input 1 first second
+pub reading_start : {input first second : List ℕ} → Reading input first second (record { turn = 0; settings = record { k = 0; b = 0; a = 0; m = 0; strand = 0; mask = 0 }; first = 0; second = 0 }) input 1 first second
 unfolding input_of nothing_yet no_settings progress_of
 reading_start = record {
   passed = 0;
@@ -84,16 +83,16 @@ module _ {input before-first before-second : List ℕ} {s : State} {rest : List 
     here_second : second ≡ in_front (take s.second second) before-second
     here_second = front_is s.second second before-second (omega (arith, r.second_most, r.second_long)) r.second_rest
 
-    pub no_end : (turn_number s.turn ≡ 3 → ⊥) → Answered (Err (record { line = line; error = OutOfTurn })) first second
+    pub no_end : (s.turn ≡ 3 → ⊥) → Answered (Err (record { line = line; error = OutOfTurn })) first second
     unfolding finished stopped progress_of input_read
-    no_end n = rw (end_of, ne_eqb (turn_number s.turn) 3 n) (rw r.counted, here_first, here_second)
+    no_end n = rw (end_of, ne_eqb (s.turn) 3 n) (rw r.counted, here_first, here_second)
 
-    pub has_end : turn_number s.turn ≡ 3 → Answered (Ok (record { settings = s.settings; first = s.first; second = s.second })) first second
+    pub has_end : s.turn ≡ 3 → Answered (Ok (record { settings = s.settings; first = s.first; second = s.second })) first second
     unfolding finished progress_of input_read
     has_end t =
         let f = length-take-le s.first first (omega (arith, r.first_most, r.first_long)) in
         let g = length-take-le s.second second (omega (arith, r.second_most, r.second_long)) in
-        rw (end_of, eq-eqb (turn_number s.turn) 3 t) (rw (f, g), here_first, here_second)
+        rw (end_of, eq-eqb (s.turn) 3 t) (rw (f, g), here_first, here_second)
 
   -- one line more
   module _ {this next : List ℕ} (some : 0 < length rest) (cut : Cut rest this next) {t : Result State FrameError}

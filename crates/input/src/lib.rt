@@ -7,7 +7,7 @@ ghost use Rattle.input.specs.Grammar.{input_read, input_of};
 
 use lines::FrameError;
 use rules::Settings;
-use turns::{State, Turn};
+use turns::State;
 
 // What a good input says: the settings and how many letters each sequence has.
 #[derive(Clone, Copy)]
@@ -26,7 +26,7 @@ pub struct BadLine {
 
 // What is said before the first line.
 const NOTHING_YET: State = State {
-    turn: Turn::Job,
+    turn: 0,
     settings: Settings {
         k: 0,
         b: 0,
@@ -54,7 +54,8 @@ pub fn read_input(input: &[u8], first: &mut [u8], second: &mut [u8]) -> Result<I
         s = turns::take_line(text, s, first, second).map_err(|error| BadLine { line, error })?;
         line += 1;
     }
-    if s.turn == Turn::Ended {
+    // after the end, as `turns` tells its numbers
+    if s.turn == 3 {
         Ok(Input {
             settings: s.settings,
             first: s.first,

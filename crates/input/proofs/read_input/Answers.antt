@@ -1,20 +1,10 @@
 use Rattle.std.proofs.Common.{◌≡◌, ◌<◌, length, sym, ap, ◌∙◌, arith, rules, false, eqb}
 use Rattle.std.proofs.lemmas.List.Sorted.{answers_always}
 use Rattle.std.proofs.lemmas.Result.{err_from_is_err_and}
-use denote.Enum.Bare.{same_true, sameb}
-use Rattle.turns.specs.declared.Turn.{Turn}
-use Rattle.turns.specs.contracts.Turn.{the_type}
-use Rattle.turns.specs.declared.Turn.TheVariants.{Job, First, Second, Ended}
-use Rattle.turns.specs.States.{turn_number, LineTaken}
+use Rattle.turns.specs.States.{LineTaken}
 use Rattle.input.proofs.Lines.{Cut, cut_of}
 use Rattle.input.proofs.Reading.{reading_start, reading_next, stops, no_end, has_end, safe, went_on, went_wrong}
 use Rattle.input.proofs.read_input.Goals as goal
-
-not_ended : (t : Turn) → sameb the_type t Ended ≡ false → turn_number t ≡ 3 → ⊥
-not_ended Job e h = omega arith
-not_ended First e h = omega arith
-not_ended Second e h = omega arith
-not_ended Ended e h = cc
 
 pub loop-text-init : goal.loop-text-init
 loop-text-init c =
@@ -52,13 +42,12 @@ returns-in_err-s c =
     let all = stops c.requires.in_bounds c.requires.in_bounds_2 c.loop-text.invariant step.2 cut c.take_line.auto.first c.take_line.auto.second (rw went.1 at taken) in
     record { value = rw (p.1, p.2, went.2) all.0; first_after = all.1; second_after = all.2 }
 
-pub returns-then-eq : goal.returns-then-eq
-returns-then-eq c =
-    let ended : c.loop-text.s.turn ≡ Ended = same_true the_type (search rules) _ _ (sym c.eq.ensures ∙ c.if-eq.true) in
-    let all = has_end c.requires.in_bounds c.requires.in_bounds_2 c.loop-text.invariant c.in-None.ensures.steps.0 (ap turn_number ended) in
+pub returns-then-s-eq3 : goal.returns-then-s-eq3
+returns-then-s-eq3 c =
+    let all = has_end c.requires.in_bounds c.requires.in_bounds_2 c.loop-text.invariant c.in-None.ensures.steps.0 c.if-s-eq3.true in
     record { value = all.0; first_after = all.1; second_after = all.2 }
 
-pub returns-else-eq : goal.returns-else-eq
-returns-else-eq c =
-    let all = no_end c.requires.in_bounds c.requires.in_bounds_2 c.loop-text.invariant c.in-None.ensures.steps.0 (not_ended _ (sym c.eq.ensures ∙ c.if-eq.false)) in
+pub returns-else-s-eq3 : goal.returns-else-s-eq3
+returns-else-s-eq3 c =
+    let all = no_end c.requires.in_bounds c.requires.in_bounds_2 c.loop-text.invariant c.in-None.ensures.steps.0 c.if-s-eq3.false in
     record { value = all.0; first_after = all.1; second_after = all.2 }
