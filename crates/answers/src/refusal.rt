@@ -24,6 +24,11 @@ impl From<Sequence> for u64 {
 }
 
 impl fmt::Display for Sequence {
+    ghost use Rattle.std.specs.Prelude.{Some};
+    ghost use Rattle.answers.specs.Words.{sequence_words};
+
+    ghost output = { λ sequence. Some (sequence_words sequence) };
+
     fn fmt<W: fmt::Write>(&self, f: &mut fmt::Formatter<W>) -> fmt::Result {
         f.write_str(match self {
             Sequence::First => "first",
@@ -84,6 +89,11 @@ impl Refusal {
 }
 
 impl fmt::Display for Refusal {
+    ghost use Rattle.std.specs.Prelude.{Some};
+    ghost use Rattle.answers.specs.Words.{refusal_words};
+
+    ghost output = { λ refusal. Some (refusal_words refusal) };
+
     fn fmt<W: fmt::Write>(&self, f: &mut fmt::Formatter<W>) -> fmt::Result {
         match self {
             Refusal::KmerLength => f.write_str("k is not from 1 to 31"),

@@ -40,6 +40,11 @@ impl FrameError {
 }
 
 impl fmt::Display for FrameError {
+    ghost use Rattle.std.specs.Prelude.{Some};
+    ghost use Rattle.lines.specs.Errors.{words_of};
+
+    ghost output = { λ error. Some (words_of error) };
+
     fn fmt<W: fmt::Write>(&self, f: &mut fmt::Formatter<W>) -> fmt::Result {
         f.write_str(match self {
             FrameError::NotALine => "not a line of hexadecimal",
