@@ -14,7 +14,7 @@ abbrev row : Columns → List ℕ
 row s = row_from s.nexts.now s.at
 
 row_ends : (s t : Columns) → column_steps s None t → length (row s) ≡ 0
-row_ends s t e = ap (λ (x : ℕ). length (row_from s.nexts.now x)) e.1 ∙ ap length (row_none s.nexts.now)
+row_ends s t e = ap (λ (x : ℕ). length (row_from s.nexts.now x)) e.1.0 ∙ ap length (row_none s.nexts.now)
 
 row_goes : (s : Columns) (x : ℕ) (t : Columns) → column_steps s (Some x) t → row s ≡ x ∷ row t
 row_goes s x t e = rw (e.0, e.1.0, e.1.2) (row_next s.safe s.at e.1.1 s.inside)

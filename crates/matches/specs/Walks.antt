@@ -27,9 +27,9 @@ unfoldable pub row_from : List ℕ → ℕ → List ℕ
 unfolding walk
 row_from nexts x = walk nexts (length nexts) x
 
--- a step of a row in column x: it ends at 0, and else gives x, behind which comes column x'
+-- a step of a row in column x: it ends at 0 and stays there, and else gives x, behind which comes column x'
 abbrev pub Steps : List ℕ → ℕ → Option ℕ → ℕ → Type 0
-Steps nexts x r x' = MatchOption r (x ≡ 0) (λ j. (j ≡ x) × (1 ≤ x) × (x' ≡ get_or nexts (x - 1) 0))
+Steps nexts x r x' = MatchOption r ((x ≡ 0) × (x' ≡ 0)) (λ j. (j ≡ x) × (1 ≤ x) × (x' ≡ get_or nexts (x - 1) 0))
 
 -- column j is one of them
 unfoldable pub on_walk : List ℕ → ℕ → ℕ → Bool

@@ -34,15 +34,15 @@ impl<'a> Walk<'a> {
         }
     }
 
-    // The columns of the row that leaves the run of b rows when row p + 1 enters it: those of row p - b, where there is one.
-    pub fn leaving(self, b: usize, p: usize) -> Option<Columns<'a>>
+    // The columns of the row that leaves, where so many rows are kept before the one that enters, row p + 1: those of row p - kept, where there is one.
+    pub fn leaving(self, kept: usize, p: usize) -> Option<Columns<'a>>
         requires { p < length self.firsts.now }
-        ensures { MatchOption result (p ≤ b) (λ row. (b < p) × (row.nexts.now ≡ self.entry.nexts.now) × (row.at ≡ slice_index self.entry.firsts.now (p - b - 1))) }
+        ensures { MatchOption result (p ≤ kept) (λ row. (kept < p) × (row.nexts.now ≡ self.entry.nexts.now) × (row.at ≡ slice_index self.entry.firsts.now (p - kept - 1))) }
     {
-        if p <= b {
+        if p <= kept {
             None
         } else {
-            Some(self.row(p - b - 1))
+            Some(self.row(p - kept - 1))
         }
     }
 }

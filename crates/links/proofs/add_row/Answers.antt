@@ -27,4 +27,4 @@ loop-j-preserved c =
     }
 
 pub returns-clause-row_added : goal.returns-clause-row_added
-returns-clause-row_added c = add_end c.loop-j.invariant.added c.in-None.ensures.steps.1
+returns-clause-row_added c = add_end c.loop-j.invariant.added c.in-None.ensures.steps.1.0

@@ -25,4 +25,4 @@ loop-j-preserved c =
     }
 
 pub returns-clause-row_released : goal.returns-clause-row_released
-returns-clause-row_released c = release_end c.loop-j.invariant.released c.in-None.ensures.steps.1
+returns-clause-row_released c = release_end c.loop-j.invariant.released c.in-None.ensures.steps.1.0

@@ -13,4 +13,4 @@ loop-j-preserved c =
 
 pub returns : goal.returns
 returns c =
-    row_end c.requires c.loop-j.invariant.stored c.in-None.ensures.steps.1
+    row_end c.requires c.loop-j.invariant.stored c.in-None.ensures.steps.1.0
