@@ -5,22 +5,28 @@
 
 ghost use Rattle.std.specs.Prelude.{◌≡◌, ◌-◌, ◌*◌, ◌^◌, ◌≤◌, ◌<◌, length};
 ghost use Rattle.requests.specs.Index.{kmer_places};
+ghost use Rattle.index.specs.Keys.{Indexed};
 ghost use Rattle.ownership.specs.Owners.{Owned};
 ghost use Rattle.directory.specs.Directory.{bucket_of, ends_to, Rising, Bucketed, Reached, Lower, Near, next_near};
 
-use index::Lookup;
 use ownership::Owners;
 
 // An index with a directory of its keys.
 #[derive(Clone, Copy)]
 pub struct Directory<'a> {
-    pub lookup: Lookup<'a>,
+    // the codes of the second sequence, at most as many as it can have places
+    pub codes: &'a [u64],
+    // a slice that begins with their index, and the codes of its numbers
+    pub index: &'a [u32],
+    pub keys: &'a [u64],
     // how many low bits of a code a bucket leaves out
     pub low: usize,
     // where each bucket ends
     pub ends: &'a [u16],
+    pub ghost few: { length codes.now ≤ 16384 },
+    pub ghost indexed: { Indexed codes.now index.now keys.now },
     pub ghost low_bound: { low < 64 },
-    pub ghost bucketed: { Bucketed low lookup.keys.now ends.now (kmer_places lookup.codes.now) },
+    pub ghost bucketed: { Bucketed low keys.now ends.now (kmer_places codes.now) },
 }
 
 // How many low bits of a code a bucket leaves out: of the 2k all but sixteen.
@@ -78,19 +84,19 @@ fn lower(keys: &[u64], begin: usize, end: usize, c: u64) -> usize
 }
 
 impl<'a> Owners for Directory<'a> {
-    ghost columns = { λ d. d.lookup.codes.now };
+    ghost columns = { λ d. d.codes.now };
 
     // Equal codes are ordered by place, so the first key of its bucket that is not below the code stands at its first column.
     fn owner_of(&self, code: u64) -> u32 {
         if code == 0 {
             return 0;
         }
-        let keys = self.lookup.keys;
+        let keys = self.keys;
         let end = usize::from(self.ends[bucket(code, self.low)]);
         let begin = reach(keys, end, code);
         let q = lower(keys, begin, end, code);
         if q < end && keys[q] == code {
-            self.lookup.index[q]
+            self.index[q]
         } else {
             0
         }
@@ -116,14 +122,14 @@ fn next_near(near: usize, owner: u32) -> usize
 // The owner of each row's code, where every column's is in own.
 pub fn own_rows(directory: Directory, first: &[u64], own: &[u32], heads: &mut [u32])
     requires few_rows { length first.now ≤ 16384 }
-    requires columns_in_bounds { length directory.lookup.codes.now ≤ length own.now }
+    requires columns_in_bounds { length directory.codes.now ≤ length own.now }
     requires rows_in_bounds { length first.now ≤ length heads.old }
-    requires owned { Owned directory.lookup.codes.now directory.lookup.codes.now own.now own.now (length directory.lookup.codes.now) }
-    ensures { Owned directory.entry.lookup.codes.now first.now heads.old heads.new (length first.now) }
+    requires owned { Owned directory.codes.now directory.codes.now own.now own.now (length directory.codes.now) }
+    ensures { Owned directory.entry.codes.now first.now heads.old heads.new (length first.now) }
 {
     let mut near: usize = 0;
     for (row, c) in first.iter().enumerate() {
-        if is_near(directory.lookup.codes, near, *c) {
+        if is_near(directory.codes, near, *c) {
             heads[row] = own[near];
             near += 1;
         } else {

@@ -31,7 +31,9 @@ pub fn find_matches(
     let mut ends = [0u16; 65536];
     directory::fill_directory(&lookup.keys[..lookup.places], low, &mut ends);
     let directory = Directory {
-        lookup,
+        codes: lookup.codes,
+        index: lookup.index,
+        keys: lookup.keys,
         low,
         ends: &ends,
     };

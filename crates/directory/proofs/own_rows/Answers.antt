@@ -10,5 +10,5 @@ loop-row-preserved c =
     let room : c.loop-row.row < length c.loop-row.heads = omega (arith, c.loop-row-test.true, c.requires.rows_in_bounds, c.loop-row.invariant.owned.long) in
     elim c.if-is_near.branch [
       | then-is_near w ↦ rw (w.heads-is, w.near-is) (rows_near c.loop-row.invariant c.loop-row-test.true room c.requires.owned (rw w.if-is_near.true at c.is_near.ensures))
-      | else-is_near w ↦ rw (w.heads-is, w.near-is) (rows_found c.loop-row.invariant c.loop-row-test.true room c.args.directory.lookup.few w.owner_of-owner.ensures w.next_near-near.ensures)
+      | else-is_near w ↦ rw (w.heads-is, w.near-is) (rows_found c.loop-row.invariant c.loop-row-test.true room c.args.directory.few w.owner_of-owner.ensures w.next_near-near.ensures)
     ]

@@ -3,4 +3,4 @@ use Rattle.directory.proofs.Neighbours.{Rows}
 use Rattle.directory.proofs.own_rows.Given as goal
 
 abbrev pub invariant-loop-row : goal.invariant-loop-row
-invariant-loop-row l = Rows l.first l.directory.lookup.codes.now l.initial.heads l.heads l.near l.row
+invariant-loop-row l = Rows l.first l.directory.codes.now l.initial.heads l.heads l.near l.row

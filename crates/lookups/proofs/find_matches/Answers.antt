@@ -16,4 +16,4 @@ fill_directory-requires-clause-few c =
 pub invariant_of-directory : goal.invariant_of-directory
 invariant_of-directory c =
     let l = c.args.lookup in
-    record { low_bound = c.requires.low_bound; bucketed = directory_ready l.counted (omega (arith, l.counted, l.indexed.long)) c.fill_directory.ensures }
+    record { few = l.few; indexed = l.indexed; low_bound = c.requires.low_bound; bucketed = directory_ready l.counted (omega (arith, l.counted, l.indexed.long)) c.fill_directory.ensures }

@@ -16,7 +16,7 @@ ending : {low c b end : ℕ} (ends : List ℕ) → b ≡ bucket_of low c → end
 ending ends at e = record { ends_at = e ∙ ap (λ (n : ℕ). get_or ends n 0) at }
 
 pub returns-then-code-eq0 : goal.returns-then-code-eq0
-returns-then-code-eq0 c = own_none c.args.self.now.lookup.codes.now c.if-code-eq0.true
+returns-then-code-eq0 c = own_none c.args.self.now.codes.now c.if-code-eq0.true
 
 pub offset_bounds-self-bucket : goal.offset_bounds-self-bucket
 offset_bounds-self-bucket c = omega (arith, bucket_small)
@@ -25,24 +25,24 @@ pub bounds-self-bucket : goal.bounds-self-bucket
 bounds-self-bucket c = omega (arith, bucket_small, c.args.self.now.bucketed.wide)
 
 pub reach-begin-requires-clause-rising : goal.reach-begin-requires-clause-rising
-reach-begin-requires-clause-rising c = (can_reach c.args.self.now.lookup.indexed c.args.self.now.bucketed (ending _ c.bucket.ensures c.from-end.ensures)).1
+reach-begin-requires-clause-rising c = (can_reach c.args.self.now.indexed c.args.self.now.bucketed (ending _ c.bucket.ensures c.from-end.ensures)).1
 
 pub lower-q-requires-clause-rising : goal.lower-q-requires-clause-rising
-lower-q-requires-clause-rising c = (can_reach c.args.self.now.lookup.indexed c.args.self.now.bucketed (ending _ c.bucket.ensures c.from-end.ensures)).1
+lower-q-requires-clause-rising c = (can_reach c.args.self.now.indexed c.args.self.now.bucketed (ending _ c.bucket.ensures c.from-end.ensures)).1
 
 pub bounds-self-q : goal.bounds-self-q
 bounds-self-q c =
-    let inside = rank_inside c.args.self.now.lookup.indexed c.args.self.now.bucketed (ending _ c.bucket.ensures c.from-end.ensures) c.if-code-eq0.false c.reach-begin.ensures c.lower-q.ensures c.if-q-end.true in
-    omega (arith, inside, index_long c.args.self.now.lookup.indexed)
+    let inside = rank_inside c.args.self.now.indexed c.args.self.now.bucketed (ending _ c.bucket.ensures c.from-end.ensures) c.if-code-eq0.false c.reach-begin.ensures c.lower-q.ensures c.if-q-end.true in
+    omega (arith, inside, index_long c.args.self.now.indexed)
 
 pub returns-then-keys-q : goal.returns-then-keys-q
 returns-then-keys-q c =
-    owner_found c.args.self.now.lookup.indexed c.args.self.now.bucketed (ending _ c.bucket.ensures c.from-end.ensures) c.if-code-eq0.false c.reach-begin.ensures c.lower-q.ensures c.if-q-end.true
+    owner_found c.args.self.now.indexed c.args.self.now.bucketed (ending _ c.bucket.ensures c.from-end.ensures) c.if-code-eq0.false c.reach-begin.ensures c.lower-q.ensures c.if-q-end.true
     c.if-keys-q.true
 
 pub returns-else-q-end : goal.returns-else-q-end
 returns-else-q-end c =
     elim c.else-q-end.branch [
-      | else-q-end-via-then-q-end+else-keys-q w ↦ owner_other c.args.self.now.lookup.indexed c.args.self.now.bucketed (ending _ c.bucket.ensures c.from-end.ensures) c.if-code-eq0.false c.reach-begin.ensures c.lower-q.ensures w.if-q-end.true w.if-keys-q.false
-      | else-q-end-via-else-q-end w ↦ owner_past c.args.self.now.lookup.indexed c.args.self.now.bucketed (ending _ c.bucket.ensures c.from-end.ensures) c.if-code-eq0.false c.reach-begin.ensures c.lower-q.ensures w.if-q-end.false
+      | else-q-end-via-then-q-end+else-keys-q w ↦ owner_other c.args.self.now.indexed c.args.self.now.bucketed (ending _ c.bucket.ensures c.from-end.ensures) c.if-code-eq0.false c.reach-begin.ensures c.lower-q.ensures w.if-q-end.true w.if-keys-q.false
+      | else-q-end-via-else-q-end w ↦ owner_past c.args.self.now.indexed c.args.self.now.bucketed (ending _ c.bucket.ensures c.from-end.ensures) c.if-code-eq0.false c.reach-begin.ensures c.lower-q.ensures w.if-q-end.false
     ]
